@@ -79,15 +79,21 @@ done
 mkdir "$work/seeds" "$work/corpus" "$work/kept"
 [ ! -e "$top/bench/fuzz/seeds/$own.tar.gz" ] || tar -xzf "$top/bench/fuzz/seeds/$own.tar.gz" -C "$work/kept" || stop "the seeds can't be unpacked"
 python3 - "$top" "$work/seeds" $own <<'PYTHON' || stop "there are no seeds"
-import pathlib, sys
+import base64, pathlib, sys
 
 top, seeds = map(pathlib.Path, sys.argv[1:3])
 if sys.argv[3] == "msat_psbt":
-    made = {case.read_bytes() for case in (top / "examples/psbt").glob("*/source")}
-    for number, source in enumerate(sorted(made)):
-        for letter in "fieh":
-            (seeds / f"{number:04}{letter}").write_bytes(letter.encode() + source)
-    sys.exit(print(f"{4 * len(made)} seeds"))
+    made = set()
+    for source in (top / "examples/psbt").glob("*/source"):
+        psbt = source.read_bytes()
+        if (source.parent / "words").read_text().split() == ["combine"]:
+            made |= {b"c" + psbt, *(letter + line for letter in (b"f", b"i", b"e", b"h", b"v") for line in psbt.split())}
+            continue
+        made |= {letter + psbt for letter in (b"f", b"i", b"e", b"h", b"v")}
+        made.add(b"c" + 2 * ((base64.b64encode(psbt) if psbt.startswith(b"psbt\xff") else psbt.replace(b"\n", b"")) + b"\n"))
+    for number, input in enumerate(sorted(made)):
+        (seeds / f"{number:05}").write_bytes(input)
+    sys.exit(print(f"{len(made)} seeds"))
 sys.path.insert(0, str(top / "bench"))
 from texts import Texts
 
@@ -103,7 +109,7 @@ for _ in range(200):
     text = texts.text()
     pairs = ",".join(f'{{"key":"{key}","sig":"3044"}}' for key in dict.fromkeys(texts.keys))
     source = f'{{"sequence":20,"signatures":[{pairs}],"preimages":["{"00" * 32}"]}}'
-    for words in (["script"], ["check"], ["policy"], ["satisfy"], ["satisfy", "--malleable"], ["check", "--consensus"], ["satisfy", "--consensus"]):
+    for words in (["script"], ["asm"], ["check"], ["policy"], ["satisfy"], ["satisfy", "--malleable"], ["check", "--consensus"], ["satisfy", "--consensus"]):
         made.append((words + [text], source))
     made.append((["plan", text], source.replace("signatures", "keys").replace('"sig":"3044"', '"length":72')))
 made += [(["gen", str(number)], "") for number in (1, 2, 7, 30)]

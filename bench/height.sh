@@ -12,7 +12,7 @@ use bumpalo::Bump;
 use ms_height::height;
 use ms_sane::Work;
 use ms_text::read_text;
-use ms_types::corr;
+use ms_types::correctness_of;
 use std::alloc::Global;
 use std::env::{self, Env};
 use std::io;
@@ -36,7 +36,7 @@ fn height_of(alloc: Global, text: &str, measured: bool) -> io::Result<u64> {
         return Ok(0);
     };
     let mut work = Work::new(alloc, text.tree())?;
-    match corr(text.tree()) {
+    match correctness_of(text.tree()) {
         Ok(_) if measured => Ok(height(text.tree(), &mut work)),
         _ => Ok(0),
     }

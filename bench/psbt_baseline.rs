@@ -1,6 +1,5 @@
 //! What `msat-psbt finalize` does with a PSBT of version 0 or 2 that came as bytes, by plain Rust over slices of it, to be measured beside the proved
-//! program: no value is copied but into the output, and a script's nodes lie in one list that each input uses again. It makes P2WPKH final too.
-//! Refusals aren't told apart.
+//! program: no value is copied but into the output, and a script's nodes lie in one list that each input uses again. Refusals aren't told apart.
 //! Usage: psbt_baseline, with a PSBT on standard input. The exit status is 0, 4 where an input stays open, or 3 where `refused` is printed.
 
 #[allow(dead_code)]

@@ -8,3 +8,4 @@ complete -c msat-psbt -n __fish_use_subcommand -a hashes -d 'what the signatures
 complete -c msat-psbt -n __fish_use_subcommand -a verify -d 'whether the final fields of each input are valid'
 complete -c msat-psbt -n __fish_use_subcommand -a combine -d 'the PSBT that holds what several of one transaction hold'
 complete -c msat-psbt -n __fish_use_subcommand -a lines -d 'an answer to each line of standard input, in order'
+complete -c msat-psbt -n '__fish_seen_subcommand_from finalize inspect hashes' -l unverified -d 'no signature is looked at'

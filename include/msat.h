@@ -91,7 +91,7 @@ uint32_t msat_answer(size_t count, const char *words, size_t words_len, const vo
                      size_t report_len, size_t *needed);
 
 /* Answers the words of a command line, as `msat-psbt` does where its standard input holds `source`: one word of `finalize`,
- * `inspect`, `extract`, `hashes`, `verify` and `combine`; any others, and `lines` too, are MSAT_USAGE. The source is a PSBT (BIP 174, BIP 370),
+ * `inspect`, `extract`, `hashes`, `verify` and `combine`, or `--unverified` behind `finalize`, `inspect` or `hashes`; any others, and `lines` too, are MSAT_USAGE. The source is a PSBT (BIP 174, BIP 370),
  * its bytes or their base64, of at most 16,777,216 bytes, and for `combine` several, each on a line in base64; the rest is as in msat_answer, and the report of `finalize` has whatever bytes a PSBT has. MSAT_PSBT_REFUSED comes where the source is none, with why.
  * Of any other source `finalize` answers MSAT_DONE where all inputs are final then, and else MSAT_PSBT_OPEN; `inspect` MSAT_DONE where all
  * are Final or Ready, and else MSAT_PSBT_OPEN; `extract` MSAT_DONE with the transaction, and MSAT_PSBT_OPEN where an input isn't Final or
@@ -394,8 +394,8 @@ uint32_t msat_audit(const char *text, size_t text_len, uint32_t version, uint32_
 uint32_t msat_decode(const uint8_t *script, size_t script_len, const uint8_t *keys, size_t keys_len, char *text, size_t text_len,
                      size_t *needed);
 
-/* Signatures and keys of secp256k1 (SEC 1, SEC 2), of bytes of any lengths. Neither call takes memory, and no other call asks one of them:
- * msat_psbt_answer looks at no signature. */
+/* Signatures and keys of secp256k1 (SEC 1, SEC 2), of bytes of any lengths. Neither call takes memory. msat_psbt_answer
+ * judges signatures so, but where `--unverified` stands behind its word. */
 
 /* What a signature is by a key and for a hash. */
 enum {

@@ -38,7 +38,7 @@ enum {
     MSAT_PSBT_LINE_OUTPOINT,  /* id, number: the index, sequence */
     MSAT_PSBT_LINE_AMOUNT,    /* known; amount, and digits, its decimal digits, where it is claimed or proved */
     MSAT_PSBT_LINE_UNCHECKED,
-    MSAT_PSBT_LINE_SIGNATURE, /* key, type; of `verify` text: `good` or `high` */
+    MSAT_PSBT_LINE_SIGNATURE, /* key, type; text: how it is judged, `good`, `high` or `bad`, empty where that isn't told */
     MSAT_PSBT_LINE_TEXT,      /* text: the miniscript */
     MSAT_PSBT_LINE_POLICY,    /* text: what it demands */
     MSAT_PSBT_LINE_WEIGHT,    /* amount: what the satisfaction weighs */
@@ -46,11 +46,11 @@ enum {
     MSAT_PSBT_LINE_MOST,      /* amount: what the satisfaction weighs at most then */
     MSAT_PSBT_LINE_NO_PLAN,
     MSAT_PSBT_LINE_SIGN,      /* of `hashes`. type, hash: what a signature of the asked type signs, empty where that is none */
-    MSAT_PSBT_LINE_CHECK,     /* of `hashes`. key, digits: the signature, hash: what it has to sign, empty where its type is none */
+    MSAT_PSBT_LINE_CHECK,     /* of `hashes`. key, digits: the signature, hash: what it has to sign, empty where its type is none; text: as above */
     MSAT_PSBT_LINE_NOT_FINAL, /* of `extract`. number: the first input that isn't final */
     MSAT_PSBT_LINE_REFUSED,   /* fault; text: its name; has_place, number: the byte of the PSBT; of `combine` of_line, where it has one */
     MSAT_PSBT_LINE_USAGE,
-    MSAT_PSBT_LINE_KIND,      /* text: the kind of the spent output, `p2wsh`, `p2sh-p2wsh` or `other`. New kinds may come */
+    MSAT_PSBT_LINE_KIND,      /* text: the kind of the spent output, `p2wsh`, `p2wpkh`, `p2sh-p2wsh`, `p2sh-p2wpkh` or `other`. New kinds may come */
     MSAT_PSBT_LINE_FINAL_ID   /* id: the transaction's with its final scriptSigs */
 };
 
@@ -259,8 +259,12 @@ static inline bool msat_psbt_read_line(uint32_t kind, struct msat_psbt_text *res
     case MSAT_PSBT_LINE_ASK: return msat_psbt_digits(rest, &line->key);
     case MSAT_PSBT_LINE_SIGN: return msat_psbt_small(rest, &line->type) && msat_psbt_word(rest, " ") && msat_psbt_digits(rest, &line->hash);
     case MSAT_PSBT_LINE_CHECK:
-        return msat_psbt_digits(rest, &line->key) && msat_psbt_word(rest, " ") && msat_psbt_digits(rest, &line->digits) &&
-               msat_psbt_word(rest, " ") && msat_psbt_digits(rest, &line->hash);
+        if (!msat_psbt_digits(rest, &line->key) || !msat_psbt_word(rest, " ") || !msat_psbt_digits(rest, &line->digits) ||
+            !msat_psbt_word(rest, " ") || !msat_psbt_digits(rest, &line->hash))
+            return false;
+        if (!msat_psbt_word(rest, " "))
+            return true;
+        break;
     case MSAT_PSBT_LINE_NOT_FINAL: return msat_psbt_below(rest, UINT64_MAX, &line->number);
     case MSAT_PSBT_LINE_REFUSED:
         if (msat_psbt_word(rest, "line ")) {

@@ -32,6 +32,7 @@ class Page {
     this.worked = worked;
     this.psbts = 0;
     this.digits = new Map();
+    this.links = new Map();
     this.rows = new Map();
     this.turn = 0;
     this.mark = null;
@@ -44,7 +45,7 @@ class Page {
     for (const button of document.querySelectorAll("button.example")) {
       button.addEventListener("click", () => this.put(button.dataset.text));
     }
-    at("file").addEventListener("change", (event) => event.target.files[0] && this.take(event.target.files[0]));
+    at("file").addEventListener("change", (event) => this.take([...event.target.files]));
     this.dropping();
     this.change();
   }
@@ -250,29 +251,57 @@ class Page {
     document.addEventListener("drop", (event) => {
       event.preventDefault();
       set(false);
-      const file = event.dataTransfer.files[0];
-      if (file) this.take(file);
+      this.take([...event.dataTransfer.files]);
     });
   }
 
-  async take(file) {
+  // A PSBT, or several of one transaction.
+  async take(files) {
+    if (!files.length) return;
+    const name = files.length > 1 ? `${files.length} PSBTs` : files[0].name;
     this.worked.stop();
     const turn = ++this.psbts;
     const isLast = () => turn === this.psbts;
     const stop = () => {
       this.psbts++;
       this.worked.stop();
-      this.say("psbt-verdict", `${file.name}: stopped`);
+      this.say("psbt-verdict", `${name}: stopped`);
       at("psbt").replaceChildren();
     };
-    this.say("psbt-verdict", `${file.name} is read ..`);
+    this.say("psbt-verdict", files.length > 1 ? `${name} are read ..` : `${name} is read ..`);
     at("psbt").replaceChildren(element("button", { type: "button", on: ["click", stop] }, "Stop"));
     try {
-      const source = new Uint8Array(await file.slice(0, MOST_SOURCE).arrayBuffer());
-      await this.inspect(file.name, source, isLast);
+      const sources = await Promise.all(files.map(async (file) => new Uint8Array(await file.slice(0, MOST_SOURCE).arrayBuffer())));
+      await (files.length > 1 ? this.combine(files, sources, isLast) : this.inspect(name, sources[0], isLast));
     } catch (error) {
-      if (isLast()) this.say("psbt-verdict", `${file.name}: the core has stopped: ${error.message}`, "bad");
+      if (isLast()) this.say("psbt-verdict", `${name}: the core has stopped: ${error.message}`, "bad");
     }
+  }
+
+  // Puts several together, in their order, and tells what is known of what they hold.
+  async combine(files, sources, isLast) {
+    const lines = sources.map(psbtLetters);
+    const empty = lines.indexOf(""); // It would be passed over as a line.
+    if (empty >= 0) return this.inspect(files[empty].name, sources[empty], isLast);
+    const { status, report } = await this.psbt("combine", bytesOf(lines.join("\n")).subarray(0, MOST_SOURCE));
+    if (!isLast()) return;
+    const said = new TextDecoder().decode(report).trimEnd();
+    const [, line] = /^refused line (\d+) /.exec(said) || [];
+    if (status) return this.refused(line ? files[line - 1].name : "What they hold together", said);
+    const combined = psbtBytes(report);
+    const to = files[0].name.replace(/(\.psbt)?$/i, ".combined.psbt");
+    await this.inspect(`${files.length} PSBTs, combined`, combined, isLast, to);
+    if (isLast()) at("psbt").prepend(element("p", {}, this.link("combined", to, combined), " It holds what they hold together. ", by("core")));
+  }
+
+  // A PSBT that is refused, and why.
+  refused(name, said) {
+    const [, kind, reason] = /^refused (psbt|line) (?:\d+ )?(.*)$/.exec(said);
+    const [fault] = reason.split(" ");
+    const rule = WORDS.faults[`${kind} ${fault}`] || WORDS.faults[fault] || "";
+    this.say("psbt-verdict", `${name} is refused: ${reason}`, "bad");
+    const why = element("p", {}, rule && `${rule[0].toUpperCase()}${rule.slice(1)}. `, by("page"));
+    at("psbt").replaceChildren(why, element("p", { class: "soft" }, code(said), " ", by("core")));
   }
 
   async psbt(command, source) {
@@ -281,16 +310,10 @@ class Page {
     return { status, report };
   }
 
-  async inspect(name, source, isLast) {
+  async inspect(name, source, isLast, file = name) {
     const { status, report } = await this.psbt("inspect", source);
     const text = new TextDecoder().decode(report).trimEnd();
-    if (text.startsWith("refused psbt")) {
-      if (!isLast()) return;
-      this.say("psbt-verdict", `${name} is refused: ${text.slice("refused psbt ".length)}`, "bad");
-      const fault = WORDS.faults[text.split(" ")[2]] || "";
-      const why = element("p", {}, fault && `${fault[0].toUpperCase()}${fault.slice(1)}. `, by("page"));
-      return at("psbt").replaceChildren(why, element("p", { class: "soft" }, code(text), " ", by("core")));
-    }
+    if (text.startsWith("refused psbt")) return isLast() && this.refused(name, text);
     const { status: left, report: final } = await this.psbt("finalize", source);
     const network = left ? null : new TextDecoder().decode((await this.psbt("extract", final)).report).trimEnd();
     const verified = final.length <= MOST_VERIFIED ? new TextDecoder().decode((await this.psbt("verify", final)).report).trimEnd() : null;
@@ -299,15 +322,19 @@ class Page {
     const shown = inspected(text, source, final, network, verified, this);
     const more = [this.plain("Hashes that signatures sign", "hashes", source)];
     if (verified === null) more.push(this.plain("Whether its final fields are valid", "verify", final));
-    at("psbt").replaceChildren(this.save(name, final, network), ...shown, ...more);
+    at("psbt").replaceChildren(this.save(file, final, network), ...shown, ...more);
+  }
+
+  // A link that saves bytes as a file. What the one before it held is let go.
+  link(id, to, bytes) {
+    if (this.links.has(id)) URL.revokeObjectURL(this.links.get(id));
+    this.links.set(id, URL.createObjectURL(new Blob([bytes], { type: "application/octet-stream" })));
+    return element("a", { class: "save", id, href: this.links.get(id), download: to }, `Save ${to}`);
   }
 
   // The finalized PSBT as a file to save, and its transaction where all inputs are final.
-  save(name, final, network) {
-    if (this.saved) URL.revokeObjectURL(this.saved);
-    this.saved = URL.createObjectURL(new Blob([final], { type: "application/octet-stream" }));
-    const to = name.replace(/(\.psbt)?$/i, ".final.psbt");
-    const link = element("a", { class: "save", id: "save", href: this.saved, download: to }, `Save ${to}`);
+  save(file, final, network) {
+    const link = this.link("save", file.replace(/(\.psbt)?$/i, ".final.psbt"), final);
     const said = network === null ? " Not all inputs are final in it. " : " All inputs are final in it. ";
     const title = element("summary", {}, "The network transaction ", by("core"));
     const rest = network === null ? [] : [element("details", {}, title, element("pre", { id: "extract" }, network))];
@@ -458,6 +485,9 @@ function lacks(state, input, hasNoPlan) {
   return missingOf(input.policy, input.pairs, input.transaction).map(({ said, why }) => row(said, why));
 }
 
+// How a signature is judged, where that is told.
+const judged = (word) => (word ? [": ", element("span", { class: word === "good" ? "good" : "bad" }, word)] : []);
+
 // A line of the report: its name and its answer, or the number and the state of an input that begins with it.
 function psbtLine(line, named, page) {
   const [word, ...rest] = line.split(" ");
@@ -473,7 +503,7 @@ function psbtLine(line, named, page) {
     case "amount": return { parts: ["Amount", money(all)] };
     case "unchecked": return { parts: ["Unchecked", "its final fields came from outside, and nothing says that they are valid"] };
     case "kind": return { parts: ["Kind of output", all] };
-    case "signature": return { parts: ["Signature of", element("span", {}, named(rest[0]), `, type ${rest[1]}`)] };
+    case "signature": return { parts: ["Signature of", element("span", {}, named(rest[0]), `, type ${rest[1]}`, ...judged(rest[2]))] };
     case "ask": return { parts: ["Ask for a signature", named(rest[0])] };
     case "weight": return { parts: rest[0] === "at" ? ["Weight at most", rest[2]] : ["Weight", all] };
     case "no": return { parts: ["No plan", "no signatures would be enough"] };

@@ -266,7 +266,11 @@ static void write_text(int which) {
 
 /* Each command with a PSBT. */
 static void ask_psbt(const char *name) {
-    static const char *const commands[] = {"finalize", "inspect", "extract", "hashes", "verify"};
+    static const struct {
+        const char *words;
+        size_t count, length;
+    } commands[] = {{"finalize", 1, 9}, {"inspect", 1, 8}, {"extract", 1, 8}, {"hashes", 1, 7}, {"verify", 1, 7}, {"combine", 1, 8},
+                    {"finalize\0--unverified", 2, 22}, {"inspect\0--unverified", 2, 21}, {"hashes\0--unverified", 2, 20}};
     static char source[(1 << 24) + 1], answer[PSBT_ROOM];
     FILE *given = fopen(name, "rb");
     if (!given)
@@ -275,11 +279,11 @@ static void ask_psbt(const char *name) {
     fclose(given);
     for (size_t i = 0; i < sizeof commands / sizeof commands[0]; i++) {
         size_t needed = 0;
-        uint32_t code = msat_psbt_answer(1, commands[i], strlen(commands[i]) + 1, source, length, answer, sizeof answer, &needed);
+        uint32_t code = msat_psbt_answer(commands[i].count, commands[i].words, commands[i].length, source, length, answer, sizeof answer, &needed);
         if (code == MSAT_NO_MEMORY)
             exit(2);
         if (getenv("HEAP_SHOWS"))
-            printf("heap: %s %s of %zu bytes answers %u\n", commands[i], name, length, code);
+            printf("heap: %s%s %s of %zu bytes answers %u\n", commands[i].words, commands[i].count == 2 ? " --unverified" : "", name, length, code);
     }
 }
 

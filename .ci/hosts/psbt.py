@@ -50,32 +50,32 @@ def try_classes():
         row = rows.row_of(folder)
         if row.words[0] == ["combine"]:
             try_combined(row)
-        elif row.words[0] in ([word] for word in ("finalize", "inspect", "extract", "hashes", "verify")):
+        elif row.words[0][0] in ("finalize", "inspect", "extract", "hashes", "verify") and row.status != 1:
             for source in (row.sources[0], row.sources[0].decode("latin-1")):
                 if isinstance(source, bytes) or source.isascii():
-                    try_call(row, row.words[0][0], source)
+                    try_call(row, row.words[0][0], source, verify=len(row.words[0]) == 1)
 
 
 def in_kind(source, report):
     return report if isinstance(source, bytes) else report.decode().rstrip("\n")
 
 
-def try_call(row, word, source):
+def try_call(row, word, source, verify):
     """A call of the module against a row: what it gives, or what it raises."""
     report = row.report.decode("latin-1")
     try:
         if word == "finalize":
-            said = psbt.finalize(source, verify=False) == in_kind(source, row.report)
+            said = psbt.finalize(source, verify) == in_kind(source, row.report)
         elif word == "extract":
             digits = psbt.extract(source)
             said = (digits.hex() if isinstance(digits, bytes) else digits) + "\n" == report
         elif word == "inspect":
-            told = psbt.inspect(source)
+            told = psbt.inspect(source, verify)
             said = told.is_settled == (row.status == 0) and lines_of(told) == report
         elif word == "verify":
             said = validity_lines_of(psbt.validity(source)) == report
         else:
-            said = hash_lines_of(psbt.hashes(source)) == report
+            said = hash_lines_of(psbt.hashes(source, verify)) == report
     except psbt.PsbtRefused as refused:
         where = "" if refused.place is None else f" at {refused.place}"
         said = row.status == 3 and f"refused psbt {refused.name}{where}\n" == report
@@ -132,7 +132,8 @@ def lines_of(told):
         lines.append("amount unknown" if it.amount is None else f"amount {it.amount} {kind}")
         lines += ["unchecked"] if it.state == "Final" else []
         lines += [f"kind {it.kind}"] if it.kind else []
-        lines += [f"signature {key.hex()} {kind}" for key, kind in it.signatures]
+        words = [f" {word}" for word in it.words] or len(it.signatures) * [""]
+        lines += [f"signature {key.hex()} {kind}{word}" for (key, kind), word in zip(it.signatures, words, strict=True)]
         lines += [f"text {it.text}"] if it.text else []
         lines += [f"policy {it.policy}"] if it.policy else []
         lines += [] if it.weight is None else [f"weight {it.weight}"]
@@ -150,7 +151,8 @@ def hash_lines_of(told):
         if it.type is not None:
             front = "sign 1" if it.type == 1 else f"sign-other {it.type}"
             lines.append(f"{front} {digits(it.hash or b'')}")
-        lines += [f"check {check.key.hex()} {check.sig.hex()} {digits(check.hash or b'')}" for check in it.checks]
+        for check in it.checks:
+            lines.append(f"check {check.key.hex()} {check.sig.hex()} {digits(check.hash or b'')}" + (f" {check.word}" if check.word else ""))
     return "".join(line + "\n" for line in lines)
 
 
@@ -261,7 +263,8 @@ def try_leaving_out():
     high = signature(2, digest, is_high=True) + b"\1"
     for bad in (der(1, 1) + b"\1", high, good[2][1], signature(2, digest) + b"\2", signature(2, digest) + b"\4"):
         whole = signed_psbt([good[0], (KEYS[1], bad), good[2]])
-        wanted = psbt.finalize(signed_psbt([good[0], good[2]]), verify=False)
+        # One of another type than is asked isn't passed over.
+        wanted = psbt.finalize(signed_psbt([good[0], good[2]]), verify=False) if bad.endswith(b"\1") else whole
         if [is_good for _, is_good in psbt.verify(whole)] != [True, False, True]:
             fault(f"verify says {psbt.verify(whole)}")
         if psbt.finalize(whole) != wanted:
@@ -276,6 +279,41 @@ def try_leaving_out():
     unchecked = psbt.finalize(signed_psbt([good[0], (KEYS[1], der(1, 1) + b"\1"), good[2]]), verify=False)
     if der(1, 1) + b"\1" not in unchecked:
         fault("without verify the shortest signatures aren't taken")
+
+
+# Where the number of inputs stands: in version 0 in the transaction behind its version, in version 2 by itself.
+COUNTED = {b"\0": 4, b"\4": 0}
+
+
+def size_at(it, at):
+    """The CompactSize that stands here, and where it ends."""
+    width = {253: 2, 254: 4, 255: 8}.get(it[at], 0)
+    return (int.from_bytes(it[at + 1 : at + 1 + width], "little"), at + 1 + width) if width else (it[at], at + 1)
+
+
+def pairs_at(it, at):
+    """The pairs of the map that begins here: where each ends, its key, and where its value begins."""
+    while it[at] != 0:
+        length, at = size_at(it, at)
+        key = it[at : at + length]
+        length, value = size_at(it, at + length)
+        at = value + length
+        yield at, key, value
+
+
+def maps_of(it):
+    """What stands before the maps of inputs, each of them with the 00 at its end, and what stands behind them."""
+    at, count = 5, 0
+    for at, key, value in pairs_at(it, at):
+        if key in COUNTED:
+            count, _ = size_at(it, value + COUNTED[key])
+    places = [at + 1]
+    for _ in range(count):
+        at = places[-1]
+        for at, _, _ in pairs_at(it, at):
+            pass
+        places.append(at + 1)
+    return it[: places[0]], [it[start:end] for start, end in zip(places, places[1:])], it[places[-1] :]
 
 
 def kept_forms(source):
@@ -299,9 +337,9 @@ def try_nothing_lost():
                 fault(f"finalize changes an input that stays open: {pairs.hex()}")
     digest = psbt.hashes(psbt_of(TWO_OF_THREE, *3 * [b""]))[1].hash
     good = [(key, signature(secret, digest) + b"\1") for secret, key in enumerate(KEYS, 1)]
-    _, (empty, final, _), _ = psbt._maps(psbt.finalize(psbt_of(TWO_OF_THREE, b"", signed(good[0], good[2]), b""), verify=False))
+    _, (empty, final, _), _ = maps_of(psbt.finalize(psbt_of(TWO_OF_THREE, b"", signed(good[0], good[2]), b""), verify=False))
     for open_ in (signed(*bad), derived + signed(bad[1]), b""):
-        start, (first, _, last), end = psbt._maps(psbt_of(TWO_OF_THREE, open_, b"", open_))
+        start, (first, _, last), end = maps_of(psbt_of(TWO_OF_THREE, open_, b"", open_))
         wanted = start + first + final + last + end
         source = psbt_of(TWO_OF_THREE, open_, signed(good[0], bad[1], good[2]), open_)
         if final == empty or psbt.finalize(source) != wanted or psbt.finalize(wanted) != wanted:

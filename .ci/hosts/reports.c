@@ -122,7 +122,11 @@ static void spell(const struct msat_psbt_line *line) {
     case MSAT_PSBT_LINE_MOST: number("weight at most ", line->amount); break;
     case MSAT_PSBT_LINE_NO_PLAN: word("no plan"); break;
     case MSAT_PSBT_LINE_SIGN: number(line->type == 1 ? "sign " : "sign-other ", line->type), digits(" ", line->hash); break;
-    case MSAT_PSBT_LINE_CHECK: digits("check ", line->key), digits(" ", line->digits), digits(" ", line->hash); break;
+    case MSAT_PSBT_LINE_CHECK:
+        digits("check ", line->key), digits(" ", line->digits), digits(" ", line->hash);
+        if (line->text.length > 0)
+            text(" ", line->text);
+        break;
     case MSAT_PSBT_LINE_NOT_FINAL: number("not final ", line->number); break;
     case MSAT_PSBT_LINE_REFUSED:
         if (line->of_line == 0)

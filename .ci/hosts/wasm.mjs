@@ -10,7 +10,7 @@ import vm from "node:vm";
 
 const job = JSON.parse(fs.readFileSync(process.argv[2], "utf8"));
 const names = `Core, looked, markedLine, bytesOf, bytesOfHex, hexOf, HASHES, checksum, address, weaker, addressesOf, inputMaps, originOf, virtualSize,
-  missingOf, unknownKeys, stepsOf`;
+  missingOf, unknownKeys, stepsOf, psbtLetters`;
 const page = vm.runInThisContext(`(() => {"use strict";${fs.readFileSync(job.script, "utf8")};return { ${names} };})()`);
 const bytes = fs.readFileSync(job.module);
 if (WebAssembly.Module.imports(new WebAssembly.Module(bytes)).length) throw new Error("the module imports something");
@@ -77,7 +77,7 @@ if (job.hash) {
 if (job.address) told.address = job.address.map(([network, program]) => page.address(network, unpacked(program)));
 if (job.weaker) told.weaker = job.weaker.map(([kind, operand]) => page.weaker(kind, operand));
 if (job.psbt) {
-  const { addresses, origins, sizes, missing, unknown, steps } = job.psbt;
+  const { addresses, origins, sizes, missing, unknown, steps, letters } = job.psbt;
   const maps = (source) => page.inputMaps(unpacked(source), 1)[0];
   told.psbt = {
     addresses: addresses.map(page.addressesOf),
@@ -85,6 +85,7 @@ if (job.psbt) {
     sizes: sizes.map(page.virtualSize),
     missing: missing.map(([policy, source, transaction]) => page.missingOf(policy, maps(source), transaction).map(({ said }) => said)),
     unknown: unknown.map(([script, source]) => page.unknownKeys(page.bytesOfHex(script), maps(source))),
+    letters: letters.map((source) => page.psbtLetters(unpacked(source))),
     steps: steps.map(([report, witness]) => page.stepsOf(report, witness).map(({ kind, name, place, main, alt }) => [kind, name, place, main, alt])),
   };
 }

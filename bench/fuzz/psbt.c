@@ -1,5 +1,5 @@
-/* Puts one input of libFuzzer to msat_psbt_answer and to the program msat-psbt, in this process. The input is a letter for the command and the
- * bytes of standard input, a PSBT as bytes or as base64, or for `combine` lines of base64.
+/* Puts one input of libFuzzer to msat_psbt_answer and to the program msat-psbt, in this process. The input is a letter for the command, a capital
+ * one where `--unverified` stands behind it, and the bytes of standard input, a PSBT as bytes or as base64, or for `combine` lines of base64.
  *
  * It stops, as a crash, where
  * - the program has another answer than msat_psbt_answer, or writes anything to standard error, or reads another file;
@@ -9,6 +9,8 @@
  * - `finalize` writes a PSBT that is refused, has another transaction, has an input that is Ready, or changes when it is finalized again; or
  *   another one than it was given, where no input is Ready;
  * - the statuses of `finalize`, `inspect`, `extract` and `verify`, or what `verify` says is open, don't fit what `inspect` says of the states;
+ * - an input has another state without the option than with it, and isn't Unsatisfied without it and Ready with it;
+ * - what `finalize` has made final without the option isn't valid by `verify`;
  * - `extract` of a PSBT that `finalize` has made final gives no transaction;
  * - `combine` of a PSBT with itself gives another one, or of what it wrote with what that was of.
  * libFuzzer itself stops where a call takes over a second, or crashes. The file that FUZZ_COUNTS names has in the end a line for each
@@ -19,14 +21,18 @@
 #include <stdint.h>
 
 static char program[] = "msat-psbt";
+static char option[] = "--unverified";
 static const char *const commands[] = {"finalize", "inspect", "extract", "hashes", "verify", "combine", "others"};
 enum { FINALIZE, INSPECT, EXTRACT, HASHES, VERIFY, COMBINE, OTHERS, COMMANDS };
+/* Whether the option stands behind the commands that have it. */
+static int is_unverified;
 static unsigned long answers[COMMANDS][STATUSES], tried[COMMANDS][STATUSES];
-static struct bytes first, inspected, again, psbt, id, other_id, lines;
+static struct bytes first, inspected, again, psbt, id, other_id, lines, verified, unverified;
 
 static int ask(int which, const struct bytes *of, struct bytes *to) {
-    char *words[] = {program, (char *)commands[which], NULL};
-    return call(words, 2, of->at, of->length, to);
+    int has_option = is_unverified && (which == FINALIZE || which == INSPECT || which == HASHES);
+    char *words[] = {program, (char *)commands[which], has_option ? option : NULL, NULL};
+    return call(words, 2 + has_option, of->at, of->length, to);
 }
 
 static int is_same(const struct bytes *x, const struct bytes *y) {
@@ -66,6 +72,7 @@ static void finalized(int settled, int ready) {
     if (!line(&again, "psbt", &other_id) || strcmp(id.at, other_id.at)) fail("what was written has another transaction");
     if (inputs_in(&again, "Ready") || inputs_in(&again, "") != all || inputs_in(&again, "Final") != final + ready) fail("what was written has other states");
     if (ask(EXTRACT, &first, &again) != (settled && all ? 0 : 4)) fail("what was made final isn't extracted, or what isn't is");
+    if (!is_unverified && !final && (ask(VERIFY, &first, &again), inputs_in(&again, "valid") != ready)) fail("what was made final isn't valid");
 }
 
 /* Adds a PSBT as a line of base64 (RFC 4648): its bytes, or the letters that it came as. */
@@ -96,6 +103,23 @@ static void combined(void) {
     tried[COMBINE][0]++;
 }
 
+/* Each input has the same state in both forms, or is Ready with the option and Unsatisfied without it. */
+static void compare_forms(void) {
+    int was = is_unverified;
+    is_unverified = 0;
+    ask(INSPECT, &psbt, &verified);
+    is_unverified = 1;
+    ask(INSPECT, &psbt, &unverified);
+    is_unverified = was;
+    const char *one = verified.at, *other = unverified.at;
+    while ((one = strstr(one, "\ninput ")) && (other = strstr(other, "\ninput "))) {
+        char state[2][64] = {"", ""};
+        sscanf(++one, "input %*u %63[^\n]", state[0]);
+        sscanf(++other, "input %*u %63[^\n]", state[1]);
+        if (strcmp(state[0], state[1]) && (strcmp(state[0], "Unsatisfied") || strcmp(state[1], "Ready"))) fail("the forms have other states");
+    }
+}
+
 static void try_all(int which, int status) {
     int by_inspect = ask(INSPECT, &psbt, &inspected);
     if ((by_inspect == 3) != (status == 3)) fail("one command refuses the PSBT, and another one doesn't");
@@ -103,6 +127,7 @@ static void try_all(int which, int status) {
         if (!is_same(&first, &inspected)) fail("the PSBT is refused for another reason");
         return;
     }
+    compare_forms();
     int ready = inputs_in(&inspected, "Ready"), final = inputs_in(&inspected, "Final"), all = inputs_in(&inspected, "");
     if ((by_inspect == 0) != (ready + final == all)) fail("an inspection has another status than its states");
     lines.length = 0;
@@ -131,15 +156,17 @@ static void write_counts(void) {
 int LLVMFuzzerTestOneInput(const uint8_t *data, size_t size) {
     static int is_first = 1;
     if (is_first) is_first = 0, atexit(write_counts);
-    const char *letters = "fiehvc";
+    const char *letters = "fiehvcFIEHVC";
     const char *letter = size && data[0] ? strchr(letters, data[0]) : NULL;
-    int which = letter ? (int)(letter - letters) : OTHERS;
+    int which = letter ? (int)(letter - letters) % OTHERS : OTHERS;
+    is_unverified = letter && letter - letters >= OTHERS;
     psbt.length = 0;
     if (size) add(&psbt, data + 1, size - 1);
     else add(&psbt, "", 0);
     int status = ask(which, &psbt, &first);
-    char *words[] = {program, (char *)commands[which], NULL};
-    compare_with_program(words, 2, psbt.at, psbt.length, status, &first);
+    int has_option = is_unverified && (which == FINALIZE || which == INSPECT || which == HASHES);
+    char *words[] = {program, (char *)commands[which], has_option ? option : NULL, NULL};
+    compare_with_program(words, 2 + has_option, psbt.at, psbt.length, status, &first);
     expect(which, status, &first);
     answers[which][status]++;
     if (which == COMBINE && status == 0) combined();

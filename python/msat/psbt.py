@@ -1,10 +1,10 @@
 # SPDX-License-Identifier: MIT
-"""PSBTs (BIP 174, BIP 370) whose inputs spend P2WSH outputs of sane miniscripts, by themselves or in P2SH: combined, finalized, inspected,
-extracted, what their signatures sign, and whether their final fields are valid.
+"""PSBTs (BIP 174, BIP 370) whose inputs spend P2WSH outputs of sane miniscripts or P2WPKH outputs, by themselves or in P2SH: combined,
+finalized, inspected, extracted, what their signatures sign, and whether their final fields are valid.
 
 A PSBT is bytes, or a str of base64, and what comes out is of the same kind. What is asked is answered by the proved library, as the
-program msat-psbt answers it. So is what a signature is by a key and for a hash. What is Python here, the reading of reports into
-classes, which signatures are judged for which hash, and that those which aren't good don't count, is tested and not proved.
+program msat-psbt answers it: signatures are judged by the library, and those that aren't good don't count. What is Python here, the
+reading of reports into classes, is tested and not proved.
 """
 
 import base64
@@ -66,10 +66,12 @@ class Fee:
 @dataclass(frozen=True)
 class Input:
     """An input as `inspect` tells it, from its number on: `state` is its first word, and `reason` why a miniscript isn't sane. What isn't
-    told of its state is None or empty. `kind` is that of the spent output: `p2wsh`, `p2sh-p2wsh` or `other`.
+    told of its state is None or empty. `kind` is that of the spent output: `p2wsh`, `p2wpkh`, `p2sh-p2wsh`, `p2sh-p2wpkh` or `other`.
 
-    `asked` are the keys to ask for a signature, and `most` what the satisfaction then weighs at most; `weight` is what that of a Ready
-    input weighs. `is_vain` says that no signatures would be enough: a preimage is missing, or a lock doesn't hold."""
+    `words` has a word for each of the signatures, `good`, `high` or `bad`; it is empty where none is told, as in states in which it
+    isn't known what they sign, and without `verify`. `asked` are the keys to ask for a signature, and `most` what the satisfaction then
+    weighs at most; `weight` is what that of a Ready input weighs. `is_vain` says that no signatures would be enough: a preimage is missing,
+    or a lock doesn't hold."""
 
     number: int
     state: str
@@ -87,6 +89,7 @@ class Input:
     most: Optional[int] = None
     is_vain: bool = False
     kind: Optional[str] = None
+    words: tuple[str, ...] = ()
 
 
 @dataclass(frozen=True)
@@ -108,16 +111,17 @@ class Inspection:
 @dataclass(frozen=True)
 class Check:
     """A signature of an input, by its number: its key, the signature with the byte of its hash type behind, and the hash that it has to
-    sign by that byte; None where it is no hash type."""
+    sign by that byte; None where it is no hash type. `word` is `good`, `high` or `bad`, and None where signatures aren't verified."""
 
     input: int
     key: bytes
     sig: bytes
     hash: Optional[bytes]
+    word: Optional[str] = None
 
     def is_good(self) -> bool:
-        """Whether the key has signed the hash, with a low s."""
-        return self.hash is not None and is_signature_of(self.key, self.sig[:-1], self.hash)
+        """Whether the key has signed the hash, with a low s: by the word alone."""
+        return self.word == "good"
 
 
 @dataclass(frozen=True)
@@ -145,10 +149,11 @@ class Validity:
     signatures: tuple[tuple[bytes, int, str], ...] = ()
 
 
-def answer(word: str, psbt: Psbt) -> tuple[int, bytes]:
-    """The exit status and the report of the program msat-psbt for this word, where its standard input holds the PSBT. The word `lines`
-    is none here."""
-    return _library_answer([word.encode(errors="surrogatepass")], source_bytes(psbt))
+def answer(word: str, psbt: Psbt, verify: bool = True) -> tuple[int, bytes]:
+    """The exit status and the report of the program msat-psbt for this word, where its standard input holds the PSBT. Without `verify` the
+    option `--unverified` stands behind it. The word `lines` is none here."""
+    words = [word] if verify else [word, "--unverified"]
+    return _library_answer([it.encode(errors="surrogatepass") for it in words], source_bytes(psbt))
 
 
 def source_bytes(psbt: Psbt) -> bytes:
@@ -168,23 +173,17 @@ def source_bytes(psbt: Psbt) -> bytes:
 
 
 def finalize(psbt: P, verify: bool = True) -> P:
-    """The PSBT with each input that is Ready by its good signatures made final, in the form in which it came. All other inputs come out
-    byte for byte as they went in, with their bad signatures: they aren't Final, but `inspect`, which looks at no signature, may tell
-    one as Ready.
+    """The PSBT with each input that is Ready made final, in the form in which it came. All other inputs come out byte for byte as they went
+    in, with their bad signatures.
 
-    A signature that isn't good counts for nothing, so that it is chosen nowhere; its key stays known, as one without a signature.
-    Without `verify` no signature is looked at, a bad one may be chosen, and what isn't needed is cleared: keep the PSBT until the
-    transaction is accepted.
+    A signature that isn't good counts for nothing, so that it is chosen nowhere. One of another type than is asked makes its input
+    WrongSighash, whether it is good or not. Without `verify` no signature is looked at, a bad one may be chosen, and what isn't needed is
+    cleared: keep the PSBT until the transaction is accepted.
 
     >>> finalize("cHNidP8BAAoCAAAAAAAAAAAAAA==")
     'cHNidP8BAAoCAAAAAAAAAAAAAA=='
     """
-    source = source_bytes(psbt)
-    bad: dict[int, set[bytes]] = {}
-    for check in checks(source) if verify else ():
-        if not check.is_good():
-            bad.setdefault(check.input, set()).add(check.key)
-    return _of_kind(psbt, _finalized_without(source, bad) if bad else _answered("finalize", source, (0, 4))[1])
+    return _of_kind(psbt, _answered("finalize", psbt, (0, 4), verify)[1])
 
 
 def extract(psbt: P) -> P:
@@ -232,9 +231,10 @@ def _of_kind(psbt: P, made: bytes) -> P:
     return given  # type: ignore[return-value]
 
 
-def inspect(psbt: Psbt) -> Inspection:
-    """What the transaction does with the money, and of each input what it is, what it demands, and what is missing."""
-    status, report = _answered("inspect", psbt, (0, 4))
+def inspect(psbt: Psbt, verify: bool = True) -> Inspection:
+    """What the transaction does with the money, and of each input what it is, what it demands, and what is missing. Without `verify` no
+    signature is looked at."""
+    status, report = _answered("inspect", psbt, (0, 4), verify)
     head, *inputs = _by_input(report.decode())
     told = head[0].split()
     final = next((line.split()[2] for line in head if line.startswith("final txid ")), None)
@@ -250,9 +250,9 @@ def inspect(psbt: Psbt) -> Inspection:
     )
 
 
-def hashes(psbt: Psbt) -> tuple[Hashes, ...]:
-    """What the signatures of each input sign."""
-    _, report = _answered("hashes", psbt, (0,))
+def hashes(psbt: Psbt, verify: bool = True) -> tuple[Hashes, ...]:
+    """What the signatures of each input sign, and which of them are good. Without `verify` no signature is looked at."""
+    _, report = _answered("hashes", psbt, (0,), verify)
     _, *inputs = _by_input(report.decode())
     return tuple(_hashes(lines) for lines in inputs)
 
@@ -276,73 +276,7 @@ def is_signature_of(key: bytes, sig: bytes, hash: bytes) -> bool:
     return signature(key, hash, bytes(sig) + b"\x01") == "good"
 
 
-# ---- a PSBT of which some signatures don't count. The library has read it before, so it is whole and in form.
-
 _MAGIC = b"psbt\xff"
-
-# Where the number of inputs stands: in version 0 in the transaction behind its version, in version 2 by itself.
-_COUNTED = {b"\0": 4, b"\4": 0}
-
-
-def _finalized_without(source: bytes, bad: dict[int, set[bytes]]) -> bytes:
-    """What `finalize` writes where the signatures of these keys don't count, by the number of the input: the library is asked of the
-    PSBT without them, and each input that it leaves open is put back as it came."""
-    is_base64 = not source.startswith(_MAGIC)
-    start, came, end = _maps(base64.b64decode(source) if is_base64 else source)
-    asked = [_without(one, bad[number]) if number in bad else one for number, one in enumerate(came)]
-    _, answered, _ = _maps(_answered("finalize", start + b"".join(asked) + end, (0, 4))[1])
-    written = b"".join(old if made == given else made for old, given, made in zip(came, asked, answered))
-    return base64.b64encode(start + written + end) + b"\n" if is_base64 else start + written + end
-
-
-def _without(one: bytes, keys: set[bytes]) -> bytes:
-    """The map of an input without the signatures of these keys. Each key stays known by its derivation; where it has none, one without
-    a path stands in the signature's place."""
-    told = {key for _, _, key, _ in _pairs(one, 0)}
-    parts = []
-    for start, end, key, _ in _pairs(one, 0):
-        if key[:1] != b"\2" or key[1:] not in keys:
-            parts.append(one[start:end])
-        elif b"\6" + key[1:] not in told:
-            parts.append(bytes([len(key)]) + b"\6" + key[1:] + b"\4" + bytes(4))
-    return b"".join(parts) + b"\0"
-
-
-def _maps(psbt: bytes) -> tuple[bytes, list[bytes], bytes]:
-    """What stands before the maps of inputs, each of them with the 00 at its end, and what stands behind them."""
-    at, count = len(_MAGIC), 0
-    for _, end, key, value in _pairs(psbt, at):
-        at = end
-        if key in _COUNTED:
-            count, _ = _size(psbt, value + _COUNTED[key])
-    places = [at + 1]
-    for _ in range(count):
-        at = places[-1]
-        for _, end, _, _ in _pairs(psbt, at):
-            at = end
-        places.append(at + 1)
-    return psbt[: places[0]], [psbt[start:end] for start, end in zip(places, places[1:])], psbt[places[-1] :]
-
-
-def _pairs(psbt: bytes, at: int) -> Iterator[tuple[int, int, bytes, int]]:
-    """The pairs of the map that begins here: where each begins and ends, its key, and where its value begins."""
-    while psbt[at] != 0:
-        start = at
-        length, at = _size(psbt, at)
-        key = psbt[at : at + length]
-        length, value = _size(psbt, at + length)
-        at = value + length
-        yield start, at, key, value
-
-
-def _size(psbt: bytes, at: int) -> tuple[int, int]:
-    """The CompactSize that stands here, and where it ends.
-
-    >>> _size(bytes([253, 1, 2]), 0), _size(bytes([7]), 0)
-    ((513, 3), (7, 1))
-    """
-    width = {253: 2, 254: 4, 255: 8}.get(psbt[at], 0)
-    return (int.from_bytes(psbt[at + 1 : at + 1 + width], "little"), at + 1 + width) if width else (psbt[at], at + 1)
 
 
 # ---- the library's answers
@@ -368,9 +302,9 @@ def _call() -> "ctypes._NamedFuncPointer":
     return _library._library.msat_psbt_answer
 
 
-def _answered(word: str, psbt: Psbt, wanted: tuple[int, ...]) -> tuple[int, bytes]:
+def _answered(word: str, psbt: Psbt, wanted: tuple[int, ...], verify: bool = True) -> tuple[int, bytes]:
     """The status, one of those that are wanted, and the report; otherwise the refusal is raised."""
-    code, report = answer(word, psbt)
+    code, report = answer(word, psbt, verify)
     if code not in wanted:
         _refuse(code, report.decode())
     return code, report
@@ -457,6 +391,7 @@ def _input(lines: list[str]) -> Input:
         is_proved=is_proved,
         kind=next(iter(told.get("kind", [])), None),
         signatures=tuple(_signature(value) for value in told.get("signature", [])),
+        words=tuple(word for value in told.get("signature", []) for word in value.split()[2:]),
         text=next(iter(told.get("text", [])), None),
         policy=next(iter(told.get("policy", [])), None),
         weight=next((int(words[0]) for words in weights if len(words) == 1), None),
@@ -467,7 +402,12 @@ def _input(lines: list[str]) -> Input:
 
 
 def _signature(value: str) -> tuple[bytes, int]:
-    key, kind = value.split()
+    """A key, and the number of its signature's hash type, of a line in `inspect`, with a word behind or without.
+
+    >>> _signature("02 1 good"), _signature("03 129")
+    ((b'\\x02', 1), (b'\\x03', 129))
+    """
+    key, kind, *_ = value.split()
     return bytes.fromhex(key), int(kind)
 
 
@@ -489,7 +429,8 @@ def _hashes(lines: list[str]) -> Hashes:
     for line in lines[1:]:
         name, *words = line.split()
         if name == "check":
-            checks.append(Check(int(number), bytes.fromhex(words[0]), bytes.fromhex(words[1]), _bytes(words[2]) or None))
+            key, sig, signed, *judged = words
+            checks.append(Check(int(number), bytes.fromhex(key), bytes.fromhex(sig), _bytes(signed) or None, next(iter(judged), None)))
         else:
             kind, hash = int(words[0]), _bytes(words[1]) or None
     return Hashes(int(number), " ".join(state), kind, hash, tuple(checks))

@@ -5,9 +5,9 @@ use Rattle.def_tree.specs.Tree.{Tree}
 use Rattle.def_text.specs.Print.{printed}
 use Rattle.def_types.specs.declared.Base.{Base}
 use Rattle.def_types.specs.declared.Base.TheVariants as base
-use Rattle.def_types.specs.declared.Ty.{Ty}
-use Rattle.def_types.specs.declared.Mall.{Mall}
-use Rattle.def_types.specs.Typed.{type_of, mall_of}
+use Rattle.def_types.specs.declared.CorrectnessType.{CorrectnessType}
+use Rattle.def_types.specs.declared.MalleabilityProperties.{MalleabilityProperties}
+use Rattle.def_types.specs.Typed.{type_of, properties_of}
 use Rattle.def_emit.specs.Emit.{script_of}
 use Rattle.def_sane.specs.declared.Rules.{Rules}
 use Rattle.def_answer.specs.Lines.{line, script_line, program_line, tree_limits_line}
@@ -23,16 +23,16 @@ abbrev pub letter : (holds : Bool) → Bytes → Bytes
 letter holds name = if holds then name else []
 
 -- the base type, and then the letters of the properties that hold
-abbrev pub type_letters : Ty → Mall → Bytes
-type_letters ty mall =
+abbrev pub type_letters : CorrectnessType → MalleabilityProperties → Bytes
+type_letters ty malleability_of =
     base_letter ty.base ++ letter ty.z (codes "z") ++ letter ty.o (codes "o") ++ letter ty.n (codes "n")
     ++ letter ty.d (codes "d")
-    ++ letter ty.u (codes "u") ++ letter mall.s (codes "s") ++ letter mall.f (codes "f") ++ letter mall.e (codes "e")
+    ++ letter ty.u (codes "u") ++ letter malleability_of.s (codes "s") ++ letter malleability_of.f (codes "f") ++ letter malleability_of.e (codes "e")
 
 unfoldable pub check_report : Rules → Tree → Bytes
 check_report rules tree =
     line (codes "text " ++ printed tree)
-    ++ line (codes "type " ++ type_letters (type_of tree) (mall_of tree))
+    ++ line (codes "type " ++ type_letters (type_of tree) (properties_of tree))
     ++ script_line (script_of tree)
     ++ program_line (script_of tree)
     ++ tree_limits_line rules tree

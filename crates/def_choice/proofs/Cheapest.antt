@@ -13,7 +13,8 @@ use Rattle.def_satisfaction.specs.Satisfaction.{canonical}
 use Rattle.def_choice.specs.Sets.{sets}
 use Rattle.def_choice.specs.Least.{least}
 use Rattle.def_choice.specs.Lightest.{IsLightest}
-use Rattle.def_choice.specs.Cheapest.{dissatisfaction, all_dissatisfied, Child, stack_of, cheapest_of, cheapest_children}
+use Rattle.def_choice.specs.Cheapest.{all_dissatisfied, Child, stack_of, cheapest_of, cheapest_children}
+use Rattle.def_choice.specs.Dissatisfaction.{dissatisfaction}
 use Rattle.def_choice.proofs.Best.{none_best, one_best, best_as, best_both, best_two}
 use Rattle.def_choice.proofs.Counted.{counted, least_counted, counted_best}
 use Rattle.def_choice.proofs.Keys.{signature_best, keys_best}

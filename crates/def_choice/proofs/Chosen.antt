@@ -9,8 +9,10 @@ use Rattle.def_satisfaction.specs.StackSet.{StackSet}
 use Rattle.def_satisfaction.specs.Rows.{row}
 use Rattle.def_satisfaction.specs.Satisfaction.{canonical}
 use Rattle.def_choice.specs.Lightest.{IsLightest}
-use Rattle.def_choice.specs.Cheapest.{dissatisfaction, cheapest_of}
-use Rattle.def_choice.specs.Strict.{free, strict_of}
+use Rattle.def_choice.specs.Cheapest.{cheapest_of}
+use Rattle.def_choice.specs.Dissatisfaction.{dissatisfaction}
+use Rattle.def_choice.specs.Strict.{strict_of}
+use Rattle.def_choice.specs.Free.{free}
 use Rattle.def_choice.specs.Tight.{TightSat}
 use Rattle.def_choice.specs.Laws.{CheapestIsLightest, DissatisfactionIsLightest, UnsignedIsFound, TightIsCanonical, TightIsUnsigned, StrictIsTight, StrictIsCanonical}
 use Rattle.def_choice.proofs.Best.{best_reverse, turned}

@@ -3,7 +3,8 @@ use Rattle.std.proofs.Common.{◌≡◌, ℕ, zero, suc, ◌+◌, ◌<◌, Bool,
 use Rattle.std.proofs.lemmas.List.Elements.{All-nil, All-cons, All-head, All-tail, All-append, All-map, All-weaker, All-contains, Contains-append_left, Contains-append_right}
 use Rattle.std.proofs.lemmas.List.{length-map, get_or-map}
 use Rattle.std.proofs.lemmas.List.Kept.{AllPairs-cons}
-use Rattle.def_choice.specs.Sets.{sets, positions, IsBefore}
+use Rattle.def_choice.specs.Sets.{sets}
+use Rattle.def_choice.specs.Positions.{positions, IsBefore}
 use Rattle.def_choice.specs.Laws.{SetsAreAll, SetsAreInOrder}
 
 -- the chosen positions of a set, from any number on

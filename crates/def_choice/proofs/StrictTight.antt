@@ -19,8 +19,10 @@ use Rattle.def_satisfaction.proofs.Wider.{Within, both_within, same}
 use Rattle.def_choice.specs.Sets.{sets}
 use Rattle.def_choice.specs.Least.{both, lighter, least}
 use Rattle.def_choice.specs.Lightest.{IsLightest}
-use Rattle.def_choice.specs.Cheapest.{dissatisfaction, Child, stack_of, cheapest_of}
-use Rattle.def_choice.specs.Strict.{free, free_first, free_children, has_all, strict_of, strict_children}
+use Rattle.def_choice.specs.Cheapest.{Child, stack_of, cheapest_of}
+use Rattle.def_choice.specs.Dissatisfaction.{dissatisfaction}
+use Rattle.def_choice.specs.Strict.{free_first, free_children, has_all, strict_of, strict_children}
+use Rattle.def_choice.specs.Free.{free}
 use Rattle.def_choice.specs.Tight.{HasOne, FreeFirst, required, signed_row, free_row, TightSat, TightParts}
 use Rattle.def_choice.proofs.Best.{best_both, lighter-none}
 use Rattle.def_choice.proofs.Counted.{counted, least-append, least-map_map, least-above, both-none}

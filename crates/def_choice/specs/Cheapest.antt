@@ -9,10 +9,6 @@ use Rattle.def_table.specs.Table.{row_of, rows_of}
 use Rattle.def_choice.specs.Chosen.{chosen, children, none_satisfied}
 pub use Rattle.def_choice.specs.Chosen.{Child, stack_of, signatures_of, signatures}
 
--- the dissatisfaction, or none
-abbrev pub dissatisfaction : Tree → Option Stack
-dissatisfaction tree = (row_of chosen tree).dsat
-
 abbrev pub all_dissatisfied : Trees → Option Stack
 all_dissatisfied xs = none_satisfied (rows_of chosen xs)
 

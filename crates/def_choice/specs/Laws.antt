@@ -6,10 +6,13 @@ use Rattle.def_tree.specs.Tree.{Tree}
 use Rattle.def_tree.specs.Range.{IsWritable}
 use Rattle.def_assets.specs.Assets.{Assets, AreAssets, unsigned}
 use Rattle.def_satisfaction.specs.Satisfaction.{Sat, Dsat}
-use Rattle.def_choice.specs.Sets.{sets, positions, IsBefore}
+use Rattle.def_choice.specs.Sets.{sets}
+use Rattle.def_choice.specs.Positions.{positions, IsBefore}
 use Rattle.def_choice.specs.Lightest.{IsLightest}
-use Rattle.def_choice.specs.Cheapest.{dissatisfaction, cheapest}
-use Rattle.def_choice.specs.Strict.{free, strict}
+use Rattle.def_choice.specs.Cheapest.{cheapest}
+use Rattle.def_choice.specs.Dissatisfaction.{dissatisfaction}
+use Rattle.def_choice.specs.Strict.{strict}
+use Rattle.def_choice.specs.Free.{free}
 use Rattle.def_choice.specs.Tight.{Unsigned, Tight}
 
 -- the sets are all sets of k of n positions

@@ -11,3 +11,6 @@ pub mod TieExamples
 pub mod SignatureExamples
 pub mod TightExamples
 pub mod Laws
+pub mod Positions
+pub mod Dissatisfaction
+pub mod Free

@@ -1,5 +1,5 @@
 -- The ways to choose so many of some things in a row.
-use Rattle.std.specs.Prelude.{◌≡◌, ℕ, zero, suc, ◌+◌, ◌<◌, ◌⊎◌, Bool, true, false, List, [], ◌∷◌, ◌++◌, map}
+use Rattle.std.specs.Prelude.{ℕ, zero, suc, Bool, true, false, List, [], ◌∷◌, ◌++◌, map}
 
 -- all sets of k of n positions, each as a list that says of every position whether it is chosen. Those with
 -- the first position come before those without it: the order of their sorted lists of positions
@@ -8,15 +8,3 @@ sets zero zero = [] ∷ []
 sets zero (suc k) = []
 sets (suc n) zero = map (λ set. false ∷ set) (sets n zero)
 sets (suc n) (suc k) = map (λ set. true ∷ set) (sets n k) ++ map (λ set. false ∷ set) (sets n (suc k))
-
--- the positions that are chosen, numbered from `first` on
-abbrev pub positions : (first : ℕ) → (set : List Bool) → List ℕ
-positions first [] = []
-positions first (true ∷ set) = first ∷ positions (first + 1) set
-positions first (false ∷ set) = positions (first + 1) set
-
--- a list of numbers comes before another: it has the lower number where they first differ
-abbrev pub IsBefore : (these those : List ℕ) → Type 0
-IsBefore [] those = ⊥
-IsBefore (x ∷ these) [] = ⊥
-IsBefore (x ∷ these) (y ∷ those) = (x < y) ⊎ ((x ≡ y) × IsBefore these those)

@@ -4,15 +4,10 @@ use Rattle.std.specs.Option.{option_map}
 use Rattle.def_script.specs.Bytes.{Bytes}
 use Rattle.def_machine.specs.Stacks.{Stack}
 use Rattle.def_tree.specs.Tree.{Tree, Trees}
-use Rattle.def_assets.specs.Assets.{Assets, unsigned}
+use Rattle.def_assets.specs.Assets.{Assets}
 use Rattle.def_table.specs.Table.{row_of, rows_of}
 use Rattle.def_choice.specs.Chosen.{chosen, children, free_rows, Child}
-use Rattle.def_choice.specs.Cheapest.{cheapest_of}
 pub use Rattle.def_choice.specs.Chosen.{free_first, has_all}
-
--- a satisfaction without a signature, or none
-abbrev pub free : Assets → Tree → Option Stack
-free assets tree = cheapest_of (unsigned assets) tree
 
 -- which children of a threshold have a free satisfaction
 abbrev pub free_children : Assets → Trees → List Bool

@@ -12,7 +12,7 @@ use Rattle.def_satisfaction.specs.Rows.{EMPTY, ONE}
 use Rattle.def_satisfaction.specs.Satisfaction.{Sat, Dsat}
 use Rattle.def_satisfaction.specs.Samples.{pair_a, pair_b, pair_c, with_sequence, with_preimages, two_of_three, key_or_key}
 use Rattle.def_satisfaction.specs.Examples.{Satisfies}
-use Rattle.def_choice.specs.Cheapest.{dissatisfaction}
+use Rattle.def_choice.specs.Dissatisfaction.{dissatisfaction}
 use Rattle.def_choice.specs.Examples.{BothChoose}
 
 -- both stacks are canonical satisfactions of one weight, and both choices are the first

@@ -3,7 +3,7 @@ use Rattle.std.proofs.Common.{◌≡◌, true, false, refl}
 use Rattle.def_hash.proofs.Computing.{decode_pairs, sha256, sha_words, sha_schedule, sha_rounds, sha_compress, sha_hash_after, sha_digest_bytes, ripemd160, ripemd_words, ripemd_step, left_line, right_line, combined, ripemd_compress, ripemd_hash_after, ripemd_digest_bytes, hash160}
 use Rattle.def_tree.specs.Tree.{Tree, Key, just_1, older}
 use Rattle.def_types.specs.Samples.{KEY_A, KEY_B, KEY_C, pk, v, and_v}
-use Rattle.def_types.proofs.Rows.{corr_rows}
+use Rattle.def_types.proofs.Rows.{correctness_rows}
 use Rattle.def_decode.specs.Nested.{RightNested}
 use Rattle.def_decode.specs.Examples.{behind_a, NestedOnes, OtherOnes, MovedScripts, MovedTypes, FirstOfTwo, NotListed}
 
@@ -38,7 +38,7 @@ pub moved_scripts : MovedScripts
 moved_scripts = (refl, refl, refl, refl, refl)
 
 pub moved_types : MovedTypes
-unfolding corr_rows
+unfolding correctness_rows
 moved_types = (refl, refl, refl, refl, refl)
 
 pub first_of_two : FirstOfTwo

@@ -3,8 +3,8 @@ use Rattle.std.specs.Prelude.{◌≡◌, ◌↔◌, List, Some, None, Ok}
 use Rattle.def_hash.specs.Hash.{hash160}
 use Rattle.def_script.specs.Bytes.{Bytes}
 use Rattle.def_tree.specs.Tree.{Key, Tree}
-use Rattle.def_types.specs.declared.Mall.{Mall}
-use Rattle.def_types.specs.Malleable.{mall}
+use Rattle.def_types.specs.declared.MalleabilityProperties.{MalleabilityProperties}
+use Rattle.def_types.specs.Malleable.{malleability_of}
 use Rattle.def_types.specs.Typed.{type_of}
 use Rattle.def_limits.specs.declared.Limits.{Limits}
 use Rattle.def_limits.specs.Limits.{AreLimits}
@@ -23,7 +23,7 @@ HasFirstKeys keys tree = EachHashed (λ key. first_with keys (hash160 key) ≡ S
 pub record IsAlike (keys : List Key) (tree reading : Tree) : Type 0 where
   pub type : type_of reading ≡ type_of tree
   pub limits : (limits : Limits) → AreLimits reading limits ↔ AreLimits tree limits
-  pub properties : (m : Mall) → (mall reading ≡ Ok m) ↔ (mall tree ≡ Ok m)
+  pub properties : (m : MalleabilityProperties) → (malleability_of reading ≡ Ok m) ↔ (malleability_of tree ≡ Ok m)
   pub locks : (mix reading ≡ None) ↔ (mix tree ≡ None)
   pub held : HasFirstKeys keys tree → tree_keys.keys reading ≡ tree_keys.keys tree
   pub sane : HasFirstKeys keys tree → (IsSane reading ↔ IsSane tree)

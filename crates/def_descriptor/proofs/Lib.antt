@@ -2,5 +2,5 @@ pub mod Computing
 pub mod Tokens
 mod Answering
 mod Utf8
-mod Pieces
+pub mod Pieces
 mod OneAnswer

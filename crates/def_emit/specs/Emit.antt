@@ -33,8 +33,8 @@ abbrev mutual
   emit just_1 = push_number 1 ∷ []
   emit (pk_k key) = push key ∷ []
   emit (pk_h key) = code op.Dup ∷ code op.Hash160 ∷ push (hash160 key) ∷ code op.EqualVerify ∷ []
-  emit (older n) = push_number n ∷ code op.Csv ∷ []
-  emit (after n) = push_number n ∷ code op.Cltv ∷ []
+  emit (older n) = push_number n ∷ code op.CheckSequenceVerify ∷ []
+  emit (after n) = push_number n ∷ code op.CheckLockTimeVerify ∷ []
   emit (hash kind value) = code op.Size ∷ push_number 32 ∷ code op.EqualVerify ∷ code (hash_opcode kind) ∷ push value ∷ code op.Equal ∷ []
   emit (and_or x y z) = emit x ++ code op.NotIf ∷ emit z ++ code op.Else ∷ emit y ++ code op.EndIf ∷ []
   emit (two kind.AndV x y) = emit x ++ emit y

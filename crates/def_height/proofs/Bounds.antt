@@ -7,7 +7,7 @@ use Rattle.def_tree.specs.Tree.{Tree, Trees, just_0, just_1, older, after, and_o
 use Rattle.def_types.specs.declared.Base.{Base}
 use Rattle.def_types.specs.declared.Base.TheVariants.{B, V, K, W}
 use Rattle.def_types.specs.Typed.{type_of, IsTyped, AreTyped}
-use Rattle.def_types.proofs.Rows.{corr_rows}
+use Rattle.def_types.proofs.Rows.{correctness_rows}
 use Rattle.def_types.proofs.Facts.{typed-and_or, typed-and_v, typed-and_b, typed-or_b, typed-or_c, typed-or_d, typed-or_i, typed-thresh_none, typed-multi, typed-wrap_a, typed-wrap_s, typed-wrap_c, typed-wrap_d, typed-wrap_v, typed-wrap_j, typed-wrap_n, OthersFit}
 use Rattle.def_emit.specs.Emit.{emit, emit_sum, emit_added}
 use Rattle.def_limits.specs.declared.Limits.{Limits}
@@ -88,7 +88,7 @@ none_more : (t : Tree) (b : Base) → (type_of t).base ≡ b → more_at t ≡ m
 none_more t b is = ap more_of is
 
 mutual
-  unfolding corr_rows
+  unfolding correctness_rows
 
   sat_bounded : (t : Tree) → IsTyped t → Bounded (ops t + 21) (ops t + more_at t) (highest_sat t) (most_sat t)
   sat_bounded just_0 h = tt

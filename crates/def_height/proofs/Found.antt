@@ -1,9 +1,9 @@
 -- The height of a tree, from the greatest numbers of its formal satisfactions.
 use Rattle.std.proofs.Common.{◌≡◌, ℕ, Option, Some, None, Ok, refl, subst, inl, inr}
 use Rattle.def_tree.specs.Tree.{Tree}
-use Rattle.def_types.specs.Corr.{corr}
+use Rattle.def_types.specs.Correctness.{correctness_of}
 use Rattle.def_types.specs.Typed.{type_of, IsTyped}
-use Rattle.def_types.proofs.Typing.{corr_is_typed}
+use Rattle.def_types.proofs.Typing.{correctness_is_typed}
 use Rattle.def_height.specs.Formal.{Way, FormalSat}
 use Rattle.def_limits.specs.Limits.{IsGreatest}
 use Rattle.def_limits.proofs.Greatest.{one_greatest}
@@ -33,5 +33,5 @@ pub as_computed : (tree : Tree) (h : ℕ) → IsTyped tree → IsHeight tree h �
 as_computed tree h typed is = height_is_unique tree h (height_of tree) is (height_is_computed tree typed)
 
 -- and what is computed, it
-pub height_by : (tree : Tree) (h : ℕ) → corr tree ≡ Ok (type_of tree) → height_of tree ≡ h → IsHeight tree h
-height_by tree h typed is = subst (IsHeight tree) is (height_is_computed tree ((corr_is_typed tree (type_of tree)).0 typed).0)
+pub height_by : (tree : Tree) (h : ℕ) → correctness_of tree ≡ Ok (type_of tree) → height_of tree ≡ h → IsHeight tree h
+height_by tree h typed is = subst (IsHeight tree) is (height_is_computed tree ((correctness_is_typed tree (type_of tree)).0 typed).0)

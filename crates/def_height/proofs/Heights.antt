@@ -6,7 +6,7 @@ use Rattle.def_tree.specs.Tree.{Tree, Trees, just_0, just_1, pk_k, pk_h, hash, a
 use Rattle.def_types.specs.declared.Base.{Base}
 use Rattle.def_types.specs.declared.Base.TheVariants.{B, V, K, W}
 use Rattle.def_types.specs.Typed.{type_of, IsTyped, AreTyped}
-use Rattle.def_types.proofs.Rows.{corr_rows}
+use Rattle.def_types.proofs.Rows.{correctness_rows}
 use Rattle.def_types.proofs.Facts.{typed-and_or, typed-and_v, typed-and_b, typed-or_b, typed-or_c, typed-or_d, typed-or_i, typed-thresh, typed-thresh_none, typed-wrap_a, typed-wrap_s, typed-wrap_c, typed-wrap_d, typed-wrap_v, typed-wrap_j, typed-wrap_n, OthersFit}
 use Rattle.def_height.specs.Course.{up, down, Course, rise}
 use Rattle.def_height.specs.Formal.{Way, Is, FormalSat, FormalDsat, FormalParts}
@@ -57,7 +57,7 @@ pub fit_children : (k : ℕ) (x : Tree) (xs : Trees) → IsTyped (thresh k (more
 fit_children k x xs h = let f = typed-thresh k x xs h in (f.4, f.0, f.1, f.7)
 
 mutual
-  unfolding corr_rows
+  unfolding correctness_rows
 
   pub sat_highest : (t : Tree) → IsTyped t → IsHighest (left t) (FormalSat t) (highest_sat t)
   sat_highest just_0 h = never_highest 1

@@ -3,7 +3,8 @@ use Rattle.std.proofs.Common.{◌≡◌, ℕ, zero, suc, ◌-◌, ◌<◌, ◌�
 use Rattle.std.specs.Prelude.{pos, ◌≤ℤ◌}
 use Rattle.std.proofs.lemmas.Bool.{cases_lt}
 use Rattle.std.proofs.lemmas.Int.{ints}
-use Rattle.def_height.specs.Course.{up, down, Course, total, rise}
+use Rattle.def_height.specs.Course.{up, down, Course, rise}
+use Rattle.def_height.specs.Total.{total}
 use Rattle.def_height.specs.Laws.{RiseIsGreatest}
 
 below : (course : Course) (n : ℕ) → total (take n course) ≤ℤ pos (rise course)

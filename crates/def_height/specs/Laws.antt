@@ -7,7 +7,8 @@ use Rattle.def_types.specs.Typed.{type_of, IsTyped}
 use Rattle.def_limits.specs.Formal as formal
 use Rattle.def_limits.specs.declared.Limits.{Limits}
 use Rattle.def_limits.specs.Limits.{AreLimits}
-use Rattle.def_height.specs.Course.{Course, IsRise, rise}
+use Rattle.def_height.specs.Course.{Course, rise}
+use Rattle.def_height.specs.Total.{IsRise}
 use Rattle.def_height.specs.Formal.{Way, FormalSat}
 use Rattle.def_height.specs.Height.{IsHeight}
 

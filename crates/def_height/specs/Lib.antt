@@ -4,3 +4,4 @@ pub mod Height
 pub mod Laws
 pub mod Examples
 pub mod Scaffolding
+pub mod Total

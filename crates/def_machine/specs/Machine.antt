@@ -116,8 +116,8 @@ act given op.CheckSig s = on_checks (check_sig given.checker) s
 act given op.CheckSigVerify s = on_checks (check_sig given.checker) s >>= on_main verify
 act given op.CheckMultiSig s = on_multi (check_multi_sig given.checker) s
 act given op.CheckMultiSigVerify s = on_multi (check_multi_sig given.checker) s >>= on_main verify
-act given op.Cltv s = on_main (lock (λ n. after_holds n given.locks)) s
-act given op.Csv s = on_main (lock (λ n. older_holds n given.locks)) s
+act given op.CheckLockTimeVerify s = on_main (lock (λ n. after_holds n given.locks)) s
+act given op.CheckSequenceVerify s = on_main (lock (λ n. older_holds n given.locks)) s
 
 -- the opcodes that are carried out whether or not the branches are taken
 abbrev pub is_branching : Op → Bool

@@ -3,7 +3,7 @@
 use Rattle.std.proofs.Common.{◌≡◌, ℕ, ◌+◌, ◌*◌, ◌≤◌, max, not, ◌||◌, List, [], ◌∷◌, ◌++◌, length, map, filter, flat_map, refl, arith}
 use Rattle.def_tree.specs.Tree as tree
 use Rattle.def_tree.specs.Tree.{Tree, Trees, Key}
-use Rattle.def_tree.specs.Size as tree_size
+use Rattle.def_tree.specs.InRange as tree_size_there
 use Rattle.def_policy.specs.declared.Join.{Join}
 use Rattle.def_policy.specs.declared.Join.TheVariants as join
 use Rattle.def_policy.specs.Policy.{Policy, Policies, never, key, all, any, thresh, none, more, list_of, policies_of, joining}
@@ -111,7 +111,7 @@ of_keys [] = (refl, omega arith)
 of_keys (k ∷ keys) = omega (arith, of_keys keys)
 
 mutual
-  plain_within : (t : Tree) → Within (2 * tree_size.measure t) (2 * tree_size.depth t) (plain t)
+  plain_within : (t : Tree) → Within (2 * tree_size_there.measure t) (2 * tree_size_there.depth t) (plain t)
   plain_within (tree.and_or x y z) = omega (arith, plain_within x, plain_within y, plain_within z)
   plain_within (tree.two kind x y) = omega (arith, plain_within x, plain_within y, of_joining (join_of kind) (policies_of (plain x ∷ plain y ∷ [])))
   plain_within (tree.thresh k xs) = omega (arith, plain_each_within xs)
@@ -119,7 +119,7 @@ mutual
   plain_within (tree.wrap wrapper x) = omega (arith, plain_within x)
   plain_within leaf = omega arith
 
-  plain_each_within : (xs : Trees) → (size_of (plain_each xs) ≤ 2 * tree_size.measure_of xs) × (depth_of (plain_each xs) ≤ 2 * tree_size.depth_of xs)
+  plain_each_within : (xs : Trees) → (size_of (plain_each xs) ≤ 2 * tree_size_there.measure_of xs) × (depth_of (plain_each xs) ≤ 2 * tree_size_there.depth_of xs)
   plain_each_within tree.none = omega arith
   plain_each_within (tree.more x xs) = omega (arith, plain_within x, plain_each_within xs)
 

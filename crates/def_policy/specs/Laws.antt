@@ -3,7 +3,7 @@ use Rattle.std.specs.Prelude.{◌≡◌, ℕ, ◌*◌, ◌<◌, ◌≤◌, ◌�
 use Rattle.def_script.specs.Bytes.{Bytes}
 use Rattle.def_tree.specs.Tree.{Tree}
 use Rattle.def_tree.specs.Range.{IsWritable}
-use Rattle.def_tree.specs.Size as tree_size
+use Rattle.def_tree.specs.InRange as tree_size_there
 use Rattle.def_assets.specs.Assets.{Assets, AreAssets}
 use Rattle.def_sane.specs.Unfit.{IsSane}
 use Rattle.def_satisfaction.specs.Satisfaction.{Sat}
@@ -81,7 +81,7 @@ SimpleIsSmaller = (policy : Policy) → (size (simple policy) ≤ size policy) �
 abbrev pub PlainIsSmall : Type 0
 PlainIsSmall =
     (tree : Tree) →
-    (size (plain tree) ≤ 2 * tree_size.measure tree) × (depth (plain tree) ≤ 2 * tree_size.depth tree)
+    (size (plain tree) ≤ 2 * tree_size_there.measure tree) × (depth (plain tree) ≤ 2 * tree_size_there.depth tree)
 
 -- a policy says when a miniscript can be satisfied: under all assets it is true exactly where there is a canonical
 -- satisfaction

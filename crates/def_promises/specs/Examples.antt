@@ -5,13 +5,13 @@ use Rattle.def_machine.specs.Samples.{key_a, sig_a, sig_b}
 use Rattle.def_machine.specs.Stacks.{Pairs, member}
 use Rattle.def_machine.specs.Machine.{Given}
 use Rattle.def_tree.specs.Tree.{Tree, just_1}
-use Rattle.def_tree.specs.Range.{MOST_DEPTH, IsWritable}
-use Rattle.def_tree.specs.Size.{depth}
+use Rattle.def_tree.specs.Range.{IsWritable}
+use Rattle.def_tree.specs.InRange.{MOST_DEPTH, depth}
 use Rattle.def_types.specs.declared.Base.TheVariants.{B}
-use Rattle.def_types.specs.declared.Ty.{Ty}
-use Rattle.def_types.specs.declared.Mall.{Mall}
-use Rattle.def_types.specs.Corr.{corr}
-use Rattle.def_types.specs.Malleable.{mall}
+use Rattle.def_types.specs.declared.CorrectnessType.{CorrectnessType}
+use Rattle.def_types.specs.declared.MalleabilityProperties.{MalleabilityProperties}
+use Rattle.def_types.specs.Correctness.{correctness_of}
+use Rattle.def_types.specs.Malleable.{malleability_of}
 use Rattle.def_types.specs.Samples.{pk, sha256, v, and_v}
 use Rattle.def_assets.specs.Assets.{Assets, AreAssets}
 use Rattle.def_limits.specs.declared.Limits.{Limits}
@@ -102,12 +102,12 @@ abbrev pub given_a : Given
 given_a = given_of (with_preimages [] (pair_a ∷ []))
 
 -- a node of a valid miniscript has this type and these properties
-pub record HasLetters (tree node : Tree) (ty : Ty) (properties : Mall) : Type 0 where
+pub record HasLetters (tree node : Tree) (ty : CorrectnessType) (properties : MalleabilityProperties) : Type 0 where
   pub writable : IsWritable tree
   pub valid : IsValidUnder Consensus tree
   pub among : Contains (all_nodes tree) node
-  pub corr : corr node ≡ Ok ty
-  pub mall : mall node ≡ Ok properties
+  pub correctness_of : correctness_of node ≡ Ok ty
+  pub malleability_of : malleability_of node ≡ Ok properties
 
 abbrev pub KeyHasLetters : Type 0
 KeyHasLetters =

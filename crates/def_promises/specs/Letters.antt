@@ -11,10 +11,10 @@ use Rattle.def_machine.specs.Machine.{Given, State, is_live}
 use Rattle.def_tree.specs.Tree.{Tree, hash}
 use Rattle.def_tree.specs.Range.{IsWritable}
 use Rattle.def_types.specs.declared.Base.TheVariants.{B}
-use Rattle.def_types.specs.declared.Ty.{Ty}
-use Rattle.def_types.specs.declared.Mall.{Mall}
-use Rattle.def_types.specs.Corr.{corr}
-use Rattle.def_types.specs.Malleable.{mall}
+use Rattle.def_types.specs.declared.CorrectnessType.{CorrectnessType}
+use Rattle.def_types.specs.declared.MalleabilityProperties.{MalleabilityProperties}
+use Rattle.def_types.specs.Correctness.{correctness_of}
+use Rattle.def_types.specs.Malleable.{malleability_of}
 use Rattle.def_assets.specs.Assets.{Assets, known}
 use Rattle.def_tree.specs.Nodes.{all_nodes}
 use Rattle.def_sane.specs.declared.Rules.TheVariants.{Consensus}
@@ -29,21 +29,21 @@ abbrev pub without_signatures : Locks → Given
 without_signatures locks = record { checker = member []; locks = locks }
 
 -- z, zero-arg: every satisfaction and dissatisfaction has no item
-abbrev pub ZeroArg : Tree → Ty → Type 0
+abbrev pub ZeroArg : Tree → CorrectnessType → Type 0
 ZeroArg node ty =
     (given : Given) (mode : Mode) (stack : List Bytes) → IsTrue ty.z →
     FullSat node given mode stack ⊎ FullDsat node given mode stack →
     length stack ≡ 0
 
 -- o, one-arg: every one has one item
-abbrev pub OneArg : Tree → Ty → Type 0
+abbrev pub OneArg : Tree → CorrectnessType → Type 0
 OneArg node ty =
     (given : Given) (mode : Mode) (stack : List Bytes) → IsTrue ty.o →
     FullSat node given mode stack ⊎ FullDsat node given mode stack →
     length stack ≡ 1
 
 -- n, nonzero: every one has an item, and the top item of a satisfaction isn't empty
-abbrev pub NonZero : Tree → Ty → Type 0
+abbrev pub NonZero : Tree → CorrectnessType → Type 0
 NonZero node ty =
     (given : Given) (mode : Mode) (stack : List Bytes) → IsTrue ty.n →
     (FullDsat node given mode stack → 1 ≤ length stack) ×
@@ -57,14 +57,14 @@ HashesCanBeMissed node =
     (bytes : Bytes) × IsBytes bytes × IsNoPreimageOf kind value bytes
 
 -- d, dissatisfiable: there is a dissatisfaction without a signature, and it consists of bytes
-abbrev pub Dissatisfiable : Tree → Ty → Type 0
+abbrev pub Dissatisfiable : Tree → CorrectnessType → Type 0
 Dissatisfiable node ty =
     (locks : Locks) (mode : Mode) → IsTrue ty.d → HashesCanBeMissed node →
     (stack : List Bytes) × All IsBytes stack × FullDsat node (without_signatures locks) mode stack
 
 -- u, unit: carried out from a stack that ends in a satisfaction, a miniscript of type B leaves the byte 1 in its place,
 -- or stops at a limit. No element of the satisfaction is too long, since no run starts with such a one
-abbrev pub UnitValue : Tree → Ty → Type 0
+abbrev pub UnitValue : Tree → CorrectnessType → Type 0
 UnitValue node ty =
     (given : Given) (stack : List Bytes) (below : Stack) (s : State) (place : ℕ) → (ty.base ≡ B) → IsTrue ty.u →
     FullSat node given any stack → All (λ item. length item ≤ MAX_SCRIPT_ELEMENT_SIZE) stack →
@@ -72,7 +72,7 @@ UnitValue node ty =
     StopFrom node given s place ⊎ LeaveFrom node given s place (ONE ∷ below)
 
 -- the letters of correctness
-pub record TypeLetters (node : Tree) (ty : Ty) : Type 0 where
+pub record TypeLetters (node : Tree) (ty : CorrectnessType) : Type 0 where
   pub zero_arg : ZeroArg node ty
   pub one_arg : OneArg node ty
   pub non_zero : NonZero node ty
@@ -80,20 +80,20 @@ pub record TypeLetters (node : Tree) (ty : Ty) : Type 0 where
   pub unit : UnitValue node ty
 
 -- s, signed: every satisfaction needs a signature
-abbrev pub Signed : Tree → Mall → Type 0
+abbrev pub Signed : Tree → MalleabilityProperties → Type 0
 Signed node properties =
     (locks : Locks) (mode : Mode) (stack : List Bytes) → IsTrue properties.s →
     ¬ FullSat node (without_signatures locks) mode stack
 
 -- f, forced: every dissatisfaction needs one
-abbrev pub Forced : Tree → Mall → Type 0
+abbrev pub Forced : Tree → MalleabilityProperties → Type 0
 Forced node properties =
     (locks : Locks) (mode : Mode) (stack : List Bytes) → IsTrue properties.f →
     ¬ FullDsat node (without_signatures locks) mode stack
 
 -- e, expressive: with the known preimages alone there is one dissatisfaction without a signature; it is canonical
 -- and consists of bytes
-abbrev pub Expressive : Tree → Mall → Type 0
+abbrev pub Expressive : Tree → MalleabilityProperties → Type 0
 Expressive node properties =
     (locks : Locks) (assets : Assets) → IsTrue properties.e →
     (stack : List Bytes) × All IsBytes stack ×
@@ -102,7 +102,7 @@ Expressive node properties =
     ((other : List Bytes) → FullDsat node (without_signatures locks) (only (known assets)) other → other ≡ stack)
 
 -- the letters of malleability
-pub record MallLetters (node : Tree) (properties : Mall) : Type 0 where
+pub record MalleabilityLetters (node : Tree) (properties : MalleabilityProperties) : Type 0 where
   pub signed : Signed node properties
   pub forced : Forced node properties
   pub expressive : Expressive node properties
@@ -111,10 +111,10 @@ pub record MallLetters (node : Tree) (properties : Mall) : Type 0 where
 pub record Letters (tree : Tree) : Type 0 where
   pub types :
       (node : Tree) → Contains (all_nodes tree) node →
-      (ty : Ty) × (corr node ≡ Ok ty) × TypeLetters node ty
+      (ty : CorrectnessType) × (correctness_of node ≡ Ok ty) × TypeLetters node ty
   pub properties :
-      (node : Tree) (properties : Mall) → Contains (all_nodes tree) node → mall node ≡ Ok properties →
-      MallLetters node properties
+      (node : Tree) (properties : MalleabilityProperties) → Contains (all_nodes tree) node → malleability_of node ≡ Ok properties →
+      MalleabilityLetters node properties
 
 -- of every miniscript that is valid under consensus
 abbrev pub LettersHold : Type 0

@@ -5,19 +5,30 @@ use Rattle.def_combine.specs.Combine.{combined_of}
 use Rattle.def_psbt.specs.declared.Refusal.{Refusal}
 use Rattle.def_psbt.specs.Map.{Psbt}
 use Rattle.def_psbt.specs.Source.{psbt_of}
+use Rattle.def_spend.specs.declared.Verification.{Verification}
+use Rattle.def_spend.specs.declared.Verification.TheVariants.{Verified, Unverified}
 use Rattle.def_spend.specs.Reading.{Input, AreInputs}
 use Rattle.def_psbt_answer.specs.declared.status.Status.{Status}
 use Rattle.def_psbt_answer.specs.declared.words.Command.{Command}
+use Rattle.def_psbt_answer.specs.declared.words.Command.TheVariants as command
 use Rattle.def_psbt_answer.specs.declared.words.Request.{Request}
 use Rattle.def_psbt_answer.specs.declared.words.Request.TheVariants as request
 use Rattle.def_psbt_answer.specs.Words.{request_of}
 use Rattle.def_psbt_answer.specs.declared.words.Form.{Form}
 use Rattle.def_psbt_answer.specs.Reply.{Reply, reply, usage_reply, refusal_reply, form_of, command_reply, combine_reply}
 
+-- which signatures count: `extract` looks at none, and `verify` says of an open input what `inspect` says without the option
+abbrev pub verification_of : Command → Verification
+verification_of (command.Finalize verification) = verification
+verification_of (command.Inspect verification) = verification
+verification_of command.Extract = Unverified
+verification_of (command.Hashes verification) = verification
+verification_of command.Verify = Verified
+
 -- the reply to a PSBT that came in a form, by its inputs, each read
 abbrev pub RepliesToPsbt : Command → Form → Psbt → Reply → Type 0
 RepliesToPsbt command form psbt r =
-    (inputs : List Input) × AreInputs psbt inputs × (r ≡ command_reply command form psbt inputs)
+    (inputs : List Input) × AreInputs (verification_of command) psbt inputs × (r ≡ command_reply command form psbt inputs)
 
 -- the reply to what a source gives
 abbrev pub RepliesToSource : Command → Form → Result Psbt Refusal → Reply → Type 0

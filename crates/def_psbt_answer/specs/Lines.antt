@@ -3,6 +3,7 @@
 use Rattle.std.specs.Prelude.{ℕ, ◌+◌, ◌==◌, List, [], ◌∷◌, ◌++◌, length, reverse, codes, decimal, if◌then◌else◌, Option, Some, None, unwrap_or}
 use Rattle.hex.specs.Hex.{encode_lower}
 use Rattle.def_script.specs.Bytes.{Bytes}
+use Rattle.def_curve.specs.declared.Judgement.{Judgement}
 use Rattle.def_psbt.specs.declared.Refusal.{Refusal}
 use Rattle.def_psbt.specs.declared.Refusal.TheVariants as refusal
 use Rattle.def_combine.specs.declared.CombineRefusal.{CombineRefusal}
@@ -17,7 +18,7 @@ use Rattle.def_spend.specs.Amount.{Amount}
 use Rattle.def_spend.specs.Amount as amount
 use Rattle.def_answer.specs.Lines.{line}
 use Rattle.def_answer.specs.Satisfy.{item_digits}
-use Rattle.def_psbt_answer.specs.Names.{fault_name, kind_name, state_name}
+use Rattle.def_psbt_answer.specs.Names.{fault_name, kind_name, state_name, judgement_name}
 
 -- ---- refusals
 
@@ -92,9 +93,15 @@ unchecked_line = line (codes "unchecked")
 abbrev pub kind_line : Kind → Bytes
 kind_line kind = line (codes "kind " ++ kind_name kind)
 
+-- how a signature is judged, where that is told
+abbrev pub judged_text : Option Judgement → Bytes
+judged_text None = []
+judged_text (Some judgement) = codes " " ++ judgement_name judgement
+
 -- a key with its signature: the number of the signature's hash type
-abbrev pub signature_line : Bytes × Bytes → Bytes
-signature_line pair = line (codes "signature " ++ encode_lower pair.0 ++ codes " " ++ decimal (last_byte pair.1))
+abbrev pub signature_line : Bytes × Bytes → Option Judgement → Bytes
+signature_line pair judgement =
+    line (codes "signature " ++ encode_lower pair.0 ++ codes " " ++ decimal (last_byte pair.1) ++ judged_text judgement)
 
 abbrev pub policy_line : (policy : Bytes) → Bytes
 policy_line policy = line (codes "policy " ++ policy)
@@ -118,6 +125,6 @@ sign_line type hash =
     else line (codes "sign-other " ++ decimal type ++ codes " " ++ hash_digits hash)
 
 -- what a signature that is there has to sign
-abbrev pub check_line : Bytes × Bytes → (hash : Option Bytes) → Bytes
-check_line pair hash =
-    line (codes "check " ++ encode_lower pair.0 ++ codes " " ++ encode_lower pair.1 ++ codes " " ++ hash_digits hash)
+abbrev pub check_line : Bytes × Bytes → (hash : Option Bytes) → Option Judgement → Bytes
+check_line pair hash judgement =
+    line (codes "check " ++ encode_lower pair.0 ++ codes " " ++ encode_lower pair.1 ++ codes " " ++ hash_digits hash ++ judged_text judgement)

@@ -1,6 +1,8 @@
--- The names of refusals, of states and of kinds of outputs, as reports print them.
+-- The names of refusals, of states, of kinds of outputs and of judgements, as reports print them.
 use Rattle.std.specs.Prelude.{◌++◌, codes}
 use Rattle.def_script.specs.Bytes.{Bytes}
+use Rattle.def_curve.specs.declared.Judgement.{Judgement}
+use Rattle.def_curve.specs.declared.Judgement.TheVariants as judgement
 use Rattle.def_sane.specs.declared.Unfit.{Unfit}
 use Rattle.def_sane.specs.declared.Unfit.TheVariants as unfit
 use Rattle.def_psbt.specs.declared.PsbtFault.{PsbtFault}
@@ -52,5 +54,12 @@ state_name state.Ready = codes "Ready"
 
 abbrev pub kind_name : Kind → Bytes
 kind_name kind.P2wsh = codes "p2wsh"
+kind_name kind.P2wpkh = codes "p2wpkh"
 kind_name kind.P2shP2wsh = codes "p2sh-p2wsh"
+kind_name kind.P2shP2wpkh = codes "p2sh-p2wpkh"
 kind_name kind.Other = codes "other"
+
+abbrev pub judgement_name : Judgement → Bytes
+judgement_name judgement.Bad = codes "bad"
+judgement_name judgement.High = codes "high"
+judgement_name judgement.Good = codes "good"

@@ -65,10 +65,10 @@ abbrev pub verify_status : List Input → Status
 verify_status inputs = if list_all (λ input. is_valid (verdict_of input)) inputs then status.Done else status.Open
 
 abbrev pub command_reply : Command → Form → Psbt → List Input → Reply
-command_reply command.Finalize form psbt inputs = reply (settled_status inputs) (finalize_report form psbt inputs)
-command_reply command.Inspect form psbt inputs = reply (settled_status inputs) (inspect_report psbt.transaction inputs)
+command_reply (command.Finalize verification) form psbt inputs = reply (settled_status inputs) (finalize_report form psbt inputs)
+command_reply (command.Inspect verification) form psbt inputs = reply (settled_status inputs) (inspect_report psbt.transaction inputs)
 command_reply command.Extract form psbt inputs = extract_reply psbt inputs
-command_reply command.Hashes form psbt inputs = reply status.Done (hashes_report inputs)
+command_reply (command.Hashes verification) form psbt inputs = reply status.Done (hashes_report inputs)
 command_reply command.Verify form psbt inputs = reply (verify_status inputs) (verify_report inputs)
 
 -- the PSBT that several give together, as base64, or why nothing is combined

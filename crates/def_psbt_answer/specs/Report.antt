@@ -1,5 +1,5 @@
 -- The reports, as functions of the inputs of a PSBT.
-use Rattle.std.specs.Prelude.{List, [], ◌++◌, map, flat_map, if◌then◌else◌, Option, Some, None}
+use Rattle.std.specs.Prelude.{Bool, List, [], ◌++◌, map, flat_map, if◌then◌else◌, Option, Some, None}
 use Rattle.base64.specs.Engines.{standard}
 use Rattle.base64.specs.GeneralPurpose.{encode_of}
 use Rattle.def_script.specs.Bytes.{Bytes}
@@ -8,16 +8,20 @@ use Rattle.def_tree.specs.Tree.{Tree}
 use Rattle.def_assets.specs.Assets.{Assets}
 use Rattle.def_policy.specs.Print.{printed as printed_policy}
 use Rattle.def_plan.specs.Plan.{Plan}
+use Rattle.def_curve.specs.declared.Judgement.{Judgement}
 use Rattle.def_psbt.specs.Transaction.{Transaction}
 use Rattle.def_psbt.specs.Map.{Psbt, psbt_text}
 use Rattle.def_spend.specs.declared.State.{State}
 use Rattle.def_spend.specs.declared.State.TheVariants as state
+use Rattle.def_spend.specs.declared.Verification.{Verification}
+use Rattle.def_spend.specs.declared.Verification.TheVariants.{Verified, Unverified}
 use Rattle.def_spend.specs.Fields.{signatures_in, last_byte, asked_type}
 use Rattle.def_spend.specs.Amount.{Amount}
 use Rattle.def_spend.specs.Utxo.{utxo_of, amount_of}
 use Rattle.def_spend.specs.declared.Kind.{Kind}
 use Rattle.def_spend.specs.Hashes.{hash_by}
-use Rattle.def_spend.specs.Input.{Spend, assets_of}
+use Rattle.def_spend.specs.Input.{Spend}
+use Rattle.def_spend.specs.Good.{word_of, assets_of}
 use Rattle.def_spend.specs.Kinds.{kind_of}
 use Rattle.def_spend.specs.Reading.{Input}
 use Rattle.def_spend.specs.States.{state_of, is_read, is_sane, is_final, stack_of}
@@ -31,6 +35,17 @@ use Rattle.def_psbt_answer.specs.declared.words.Form.{Form}
 use Rattle.def_psbt_answer.specs.declared.words.Form.TheVariants as form
 use Rattle.def_psbt_answer.specs.Lines.{psbt_line, final_id_line, output_lines, input_line, outpoint_line, amount_line, unchecked_line, kind_line, signature_line, policy_line, weight_line, no_plan_line, sign_line, check_line}
 use Rattle.def_psbt_answer.specs.Fee.{fee_line}
+
+-- ---- how signatures are judged
+
+-- where they are verified
+abbrev pub word_by : Verification → Spend → (pair : Bytes × Bytes) → Option Judgement
+word_by Verified spend pair = Some (word_of spend pair)
+word_by Unverified spend pair = None
+
+-- where besides it is known what they sign
+abbrev pub told_word : (is_known : Bool) → Spend → (pair : Bytes × Bytes) → Option Judgement
+told_word is_known spend pair = if is_known then word_by spend.verification spend pair else None
 
 -- ---- inspect
 
@@ -62,12 +77,17 @@ kind_lines state.NoUtxo kind = []
 kind_lines state.WrongUtxo kind = []
 kind_lines other kind = kind_line kind
 
+-- the signatures, each with its word in the states from WrongSighash on: in earlier ones no hash is known
+abbrev pub signature_lines : State → Spend → Bytes
+signature_lines state spend =
+    flat_map (λ pair. signature_line pair (told_word (is_sane state) spend pair)) (signatures_in spend.fields)
+
 -- nothing more is told of an input that is Final: nobody says that it is valid
 abbrev pub open_lines : Input → Bytes
 open_lines input =
     if is_final (state_of input) then unchecked_line
     else kind_lines (state_of input) (kind_of input.spend)
-    ++ flat_map signature_line (signatures_in input.spend.fields)
+    ++ signature_lines (state_of input) input.spend
     ++ tree_lines (state_of input) input.tree input.spend (stack_of input)
 
 abbrev pub input_report : Input → Bytes
@@ -87,11 +107,15 @@ inspect_report transaction inputs =
 
 -- ---- hashes
 
--- what a signature of the asked type signs, and what those that are there have to sign, each by its own type
+-- what a signature that is there has to sign, by its own type, and how it is judged
+abbrev pub checked_line : Spend → Bytes × Bytes → Bytes
+checked_line spend pair = check_line pair (hash_by (last_byte pair.1) spend) (word_by spend.verification spend pair)
+
+-- what a signature of the asked type signs, and what those that are there have to sign
 abbrev pub hash_lines : Spend → Bytes
 hash_lines spend =
     sign_line (asked_type spend.fields) (hash_by (asked_type spend.fields) spend)
-    ++ flat_map (λ pair. check_line pair (hash_by (last_byte pair.1) spend)) (signatures_in spend.fields)
+    ++ flat_map (checked_line spend) (signatures_in spend.fields)
 
 abbrev pub input_hashes : Input → Bytes
 input_hashes input =

@@ -1,10 +1,6 @@
 -- What `verify` prints of an input.
-use Rattle.std.specs.Prelude.{◌++◌, List, [], codes, decimal, flat_map, if◌then◌else◌}
-use Rattle.hex.specs.Hex.{encode_lower}
+use Rattle.std.specs.Prelude.{◌++◌, List, [], codes, decimal, flat_map, if◌then◌else◌, Some}
 use Rattle.def_script.specs.Bytes.{Bytes}
-use Rattle.def_curve.specs.declared.Judgement.{Judgement}
-use Rattle.def_curve.specs.declared.Judgement.TheVariants as judgement
-use Rattle.def_spend.specs.Fields.{last_byte}
 use Rattle.def_spend.specs.Input.{Spend}
 use Rattle.def_spend.specs.Reading.{Input}
 use Rattle.def_verify.specs.declared.Flaw.{Flaw}
@@ -14,11 +10,7 @@ use Rattle.def_verify.specs.Verdict.{Verdict, not_final, flawed, valid, verdict_
 use Rattle.def_answer.specs.Lines.{line}
 use Rattle.def_answer.specs.Run.{script_fault_name}
 use Rattle.def_psbt_answer.specs.Names.{state_name}
-
-abbrev pub judgement_name : Judgement → Bytes
-judgement_name judgement.Bad = codes "bad"
-judgement_name judgement.High = codes "high"
-judgement_name judgement.Good = codes "good"
+use Rattle.def_psbt_answer.specs.Lines.{signature_line}
 
 -- a flaw: a fault of a run with its place
 abbrev pub flaw_text : Flaw → Bytes
@@ -40,9 +32,7 @@ verdict_text (valid script checks) = codes "valid"
 
 -- a pair that passed: its key, the number of the signature's last byte, and the judgement for what that signs
 abbrev pub passed_line : Spend → (script : Bytes) → Bytes × Bytes → Bytes
-passed_line spend script pair =
-    line (codes "signature " ++ encode_lower pair.0 ++ codes " " ++ decimal (last_byte pair.1) ++ codes " "
-    ++ judgement_name (judged_in spend script pair.0 pair.1))
+passed_line spend script pair = signature_line pair (Some (judged_in spend script pair.0 pair.1))
 
 abbrev pub passed_lines : Spend → Verdict → Bytes
 passed_lines spend (valid script checks) = flat_map (passed_line spend script) checks

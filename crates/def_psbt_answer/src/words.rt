@@ -1,21 +1,23 @@
 //! What is asked of `msat-psbt`, and the forms of a PSBT.
 
-/// What is asked of one PSBT.
+use def_spend::Verification;
+
+/// What is asked of one PSBT, and which of its signatures count.
 #[derive(Clone, Copy, Debug, PartialEq, Eq)]
 pub enum Command {
     /// The PSBT with each input that is Ready made final.
-    Finalize,
+    Finalize(Verification),
     /// What the transaction does with the money, and what each input is and lacks.
-    Inspect,
+    Inspect(Verification),
     /// The network transaction.
     Extract,
     /// What the signatures of each input sign.
-    Hashes,
+    Hashes(Verification),
     /// Whether the final fields of each input are valid.
     Verify,
 }
 
-/// What is asked of `msat-psbt`, each by a word of its own.
+/// What is asked of `msat-psbt`, each by words of its own.
 #[derive(Clone, Copy, Debug, PartialEq, Eq)]
 pub enum Request {
     /// This, of one PSBT.

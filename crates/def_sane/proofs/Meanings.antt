@@ -4,13 +4,13 @@ use Rattle.std.proofs.lemmas.Bool.{ltb-false, le-ltb}
 use Rattle.def_tree.specs.Tree.{Tree}
 use Rattle.def_types.specs.declared.Base.{Base}
 use Rattle.def_types.specs.declared.Base.TheVariants.{B}
-use Rattle.def_types.specs.declared.Ty.{Ty}
-use Rattle.def_types.specs.declared.Mall.{Mall}
+use Rattle.def_types.specs.declared.CorrectnessType.{CorrectnessType}
+use Rattle.def_types.specs.declared.MalleabilityProperties.{MalleabilityProperties}
 use Rattle.def_types.specs.declared.rule.RuleAt.{RuleAt}
-use Rattle.def_types.specs.Corr.{is_b, corr}
-use Rattle.def_types.specs.Malleable.{mall}
-use Rattle.def_types.specs.Typed.{type_of, IsTyped, mall_of, IsMallTyped}
-use Rattle.def_types.proofs.Typing.{corr_is_typed, mall_is_non_malleable}
+use Rattle.def_types.specs.Correctness.{is_b, correctness_of}
+use Rattle.def_types.specs.Malleable.{malleability_of}
+use Rattle.def_types.specs.Typed.{type_of, IsTyped, properties_of, IsMalleabilityTyped}
+use Rattle.def_types.proofs.Typing.{correctness_is_typed, malleability_is_typed}
 use Rattle.def_sane.specs.declared.Rules.{Rules}
 use Rattle.def_sane.specs.declared.Rules.TheVariants.{Policy, Consensus}
 use Rattle.def_sane.specs.declared.Unfit.{Unfit}
@@ -51,14 +51,14 @@ within_items : (rules : Rules) (items : ℕ) (reason : Unfit) → AreFewItems ru
 within_items rules items reason h = let e = not_too_many rules items h in rw e refl
 
 -- a type, and a top of type B
-typed_from_none : (r : Result Ty RuleAt) → broken_rule r ≡ None → (ty : Ty) × (r ≡ Ok ty)
+typed_from_none : (r : Result CorrectnessType RuleAt) → broken_rule r ≡ None → (ty : CorrectnessType) × (r ≡ Ok ty)
 typed_from_none (Ok ty) e = (ty, refl)
 typed_from_none (Err at) e = cc
 
 b_from_none : (base : Base) → (if is_b base then None else Some unfit.TopNotB) ≡ None → base ≡ B
 b_from_none base = grind arith
 
-wrong_top-b : (ty : Ty) → ty.base ≡ B → wrong_top (Ok ty) ≡ None
+wrong_top-b : (ty : CorrectnessType) → ty.base ≡ B → wrong_top (Ok ty) ≡ None
 wrong_top-b ty e = rw e
 
 means_by : (rules : Rules) (tree : Tree) (limits : Limits) → (first_unfit_valid_by rules tree limits ≡ None) ↔ IsValidWithin rules tree limits
@@ -67,11 +67,11 @@ means_by rules tree limits = (forth, back)
     forth : first_unfit_valid_by rules tree limits ≡ None → IsValidWithin rules tree limits
     forth valid =
         let none = (none_of_five _ _ _ _ _).0 valid in
-        let typed = typed_from_none (corr tree) none.0 in
-        let known = (corr_is_typed tree typed.0).0 typed.1 in
+        let typed = typed_from_none (correctness_of tree) none.0 in
+        let known = (correctness_is_typed tree typed.0).0 typed.1 in
         let base : typed.0.base ≡ B = b_from_none typed.0.base (subst (λ r. wrong_top r ≡ None) typed.1 none.1) in (
           known.0,
-          subst (λ (ty : Ty). ty.base ≡ B) known.1 base,
+          subst (λ (ty : CorrectnessType). ty.base ≡ B) known.1 base,
           ltb-false (size_limit rules) _ (not_told _ _ none.2),
           ltb-false MAX_OPS_PER_SCRIPT _ (not_told _ _ none.3),
           few_items rules _ (not_told _ _ none.4),
@@ -79,7 +79,7 @@ means_by rules tree limits = (forth, back)
 
     back : IsValidWithin rules tree limits → first_unfit_valid_by rules tree limits ≡ None
     back h =
-        let typed : corr tree ≡ Ok (type_of tree) = (corr_is_typed tree (type_of tree)).1 (h.0, refl) in
+        let typed : correctness_of tree ≡ Ok (type_of tree) = (correctness_is_typed tree (type_of tree)).1 (h.0, refl) in
         (none_of_five _ _ _ _ _).1 (
           ap broken_rule typed,
           ap wrong_top typed ∙ wrong_top-b (type_of tree) h.1,
@@ -103,14 +103,14 @@ pub valid_means : (tree : Tree) →
 valid_means = valid_means_under Policy
 
 -- properties, and a top with s
-mall_from_none : (r : Result Mall RuleAt) → malleable r ≡ None → (m : Mall) × (r ≡ Ok m)
-mall_from_none (Ok m) e = (m, refl)
-mall_from_none (Err at) e = cc
+malleability_from_none : (r : Result MalleabilityProperties RuleAt) → malleable r ≡ None → (m : MalleabilityProperties) × (r ≡ Ok m)
+malleability_from_none (Ok m) e = (m, refl)
+malleability_from_none (Err at) e = cc
 
 s_from_none : (s : Bool) → (if s then None else Some unfit.NoSignature) ≡ None → s ≡ true
 s_from_none s = grind arith
 
-no_signature-s : (m : Mall) → m.s ≡ true → no_signature (Ok m) ≡ None
+no_signature-s : (m : MalleabilityProperties) → m.s ≡ true → no_signature (Ok m) ≡ None
 no_signature-s m e = rw e
 
 mix_from_none : (o : Option ℕ) → mixed_locks o ≡ None → o ≡ None
@@ -122,33 +122,33 @@ repeat_from_none o = grind arith
 pub sane_means_under : SaneMeans
 sane_means_under rules tree = (forth, back)
   where
-    forth : IsSaneUnder rules tree → IsValidUnder rules tree × IsMallTyped tree × IsTrue (mall_of tree).s × (mix tree ≡ None) × AreDistinct (keys tree)
+    forth : IsSaneUnder rules tree → IsValidUnder rules tree × IsMalleabilityTyped tree × IsTrue (properties_of tree).s × (mix tree ≡ None) × AreDistinct (keys tree)
     forth sane =
         let none = (none_of_five _ _ _ _ _).0 sane in
-        let typed = mall_from_none (mall tree) none.1 in
-        let known = (mall_is_non_malleable tree typed.0).0 typed.1 in
+        let typed = malleability_from_none (malleability_of tree) none.1 in
+        let known = (malleability_is_typed tree typed.0).0 typed.1 in
         let signed : typed.0.s ≡ true = s_from_none typed.0.s (subst (λ r. no_signature r ≡ None) typed.1 none.2) in (
           none.0,
           known.0,
-          subst (λ (m : Mall). m.s ≡ true) known.1 signed,
+          subst (λ (m : MalleabilityProperties). m.s ≡ true) known.1 signed,
           mix_from_none (mix tree) none.3,
           (none_is_repeated tree).0 (repeat_from_none (repeated_key tree) none.4),
         )
 
-    back : IsValidUnder rules tree × IsMallTyped tree × IsTrue (mall_of tree).s × (mix tree ≡ None) × AreDistinct (keys tree) → IsSaneUnder rules tree
+    back : IsValidUnder rules tree × IsMalleabilityTyped tree × IsTrue (properties_of tree).s × (mix tree ≡ None) × AreDistinct (keys tree) → IsSaneUnder rules tree
     back h =
-        let typed : mall tree ≡ Ok (mall_of tree) = (mall_is_non_malleable tree (mall_of tree)).1 (h.1, refl) in
+        let typed : malleability_of tree ≡ Ok (properties_of tree) = (malleability_is_typed tree (properties_of tree)).1 (h.1, refl) in
         (none_of_five _ _ _ _ _).1 (
           h.0,
           ap malleable typed,
-          ap no_signature typed ∙ no_signature-s (mall_of tree) h.2,
+          ap no_signature typed ∙ no_signature-s (properties_of tree) h.2,
           ap mixed_locks h.3,
           ap repeated ((none_is_repeated tree).1 h.4),
         )
 
 -- of policy
 pub sane_means : (tree : Tree) →
-    IsSane tree ↔ (IsValid tree × IsMallTyped tree × IsTrue (mall_of tree).s × (mix tree ≡ None) × AreDistinct (keys tree))
+    IsSane tree ↔ (IsValid tree × IsMalleabilityTyped tree × IsTrue (properties_of tree).s × (mix tree ≡ None) × AreDistinct (keys tree))
 sane_means = sane_means_under Policy
 
 -- the limits of consensus are the widest

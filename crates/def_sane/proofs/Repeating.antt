@@ -9,7 +9,8 @@ use Rattle.std.proofs.lemmas.Map.Views.{Contains-from_any}
 use Rattle.std.proofs.lemmas.Slice.Eq.{bytes_eq-Decides}
 use Rattle.def_tree.specs.Tree.{Tree, Key}
 use Rattle.def_tree.specs.Nodes.{all_nodes}
-use Rattle.def_sane.specs.Keys.{own_keys, repeats, repeated_from, repeated_key, Repeats}
+use Rattle.def_sane.specs.Keys.{own_keys, repeats, repeated_from, repeated_key}
+use Rattle.def_sane.specs.Repeats.{Repeats}
 use Rattle.def_sane.specs.Laws.{RepeatedIsFirst}
 use Rattle.def_sane.proofs.FirstRepeat.{Free, free_from_test}
 use Rattle.def_sane.proofs.First.{IsFirst, first_here, first_behind, first_is}

@@ -1,5 +1,5 @@
 -- Repeated keys (BIP 379: no key may stand twice in a sane miniscript).
-use Rattle.std.specs.Prelude.{◌≡◌, ℕ, ◌+◌, Bool, false, ◌||◌, List, [], ◌∷◌, ◌++◌, take, slice_get, Option, Some, None, Contains, flat_map, ⊤, if◌then◌else◌}
+use Rattle.std.specs.Prelude.{ℕ, ◌+◌, Bool, false, ◌||◌, List, [], ◌∷◌, ◌++◌, Option, Some, None, Contains, ⊤, if◌then◌else◌}
 use Rattle.std.specs.Str.{bytes_eq}
 use Rattle.std.specs.List.{list_any}
 use Rattle.def_tree.specs.Tree.{Tree, Trees, Key, just_0, just_1, pk_k, pk_h, older, after, hash, and_or, two, thresh, multi, wrap, none, more}
@@ -40,14 +40,6 @@ abbrev mutual
   keys_of_all none = []
   keys_of_all (more x xs) = keys x ++ keys_of_all xs
 
--- the node of this number is a `pk_k`, `pk_h` or `multi` that holds a key which stands in an earlier node or
--- earlier in itself
-abbrev pub Repeats : Tree → (number : ℕ) → Type 0
-Repeats tree number =
-    (node : Tree) × (slice_get (all_nodes tree) number ≡ Some node) ×
-    ((place : ℕ) × (key : Key) × (slice_get (own_keys node) place ≡ Some key) ×
-    Contains (flat_map own_keys (take number (all_nodes tree)) ++ take place (own_keys node)) key)
-
 -- no key stands twice
 abbrev pub AreDistinct : List Key → Type 0
 AreDistinct [] = ⊤
@@ -58,8 +50,7 @@ abbrev pub repeats : (before : List Key) → List Key → Bool
 repeats before [] = false
 repeats before (key ∷ rest) = list_any (bytes_eq key) before || repeats (before ++ key ∷ []) rest
 
--- the first of the nodes that repeats a key; they are numbered from `first` on, and the keys `before` stand
--- in earlier nodes
+-- the first of the nodes that repeats a key; they are numbered from `first` on, and the keys `before` stand in earlier nodes
 abbrev pub repeated_from : (first : ℕ) → (before : List Key) → List Tree → Option ℕ
 repeated_from first before [] = None
 repeated_from first before (node ∷ nodes) =

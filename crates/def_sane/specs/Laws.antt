@@ -2,14 +2,15 @@
 use Rattle.std.specs.Prelude.{◌≡◌, ◌↔◌, ℕ, ◌<◌, ◌≤◌, None, ⊤, IsTrue, MatchOption}
 use Rattle.def_tree.specs.Tree.{Tree}
 use Rattle.def_types.specs.declared.Base.TheVariants.{B}
-use Rattle.def_types.specs.Typed.{type_of, IsTyped, mall_of, IsMallTyped}
+use Rattle.def_types.specs.Typed.{type_of, IsTyped, properties_of, IsMalleabilityTyped}
 use Rattle.def_limits.specs.declared.Limits.{Limits}
 use Rattle.def_sane.specs.declared.Rules.{Rules}
 use Rattle.def_sane.specs.declared.Rules.TheVariants.{Policy, Consensus}
 use Rattle.def_limits.specs.Limits.{AreLimits}
 use Rattle.def_sane.specs.TheLimits.{the_limits}
 use Rattle.def_sane.specs.Locks.{Mixes, mix}
-use Rattle.def_sane.specs.Keys.{keys, Repeats, AreDistinct, repeated_key}
+use Rattle.def_sane.specs.Keys.{keys, AreDistinct, repeated_key}
+use Rattle.def_sane.specs.Repeats.{Repeats}
 use Rattle.def_script.specs.Limits.{MAX_OPS_PER_SCRIPT}
 use Rattle.def_sane.specs.Unfit.{size_limit, MOST_ITEMS, first_unfit_valid_by, first_unfit_by, first_unfit_valid_under, first_unfit_under, IsValidUnder, IsSaneUnder}
 
@@ -70,7 +71,7 @@ abbrev pub SaneMeans : Type 0
 SaneMeans =
     (rules : Rules) (tree : Tree) →
     IsSaneUnder rules tree ↔
-    (IsValidUnder rules tree × IsMallTyped tree × IsTrue (mall_of tree).s × (mix tree ≡ None) × AreDistinct (keys tree))
+    (IsValidUnder rules tree × IsMalleabilityTyped tree × IsTrue (properties_of tree).s × (mix tree ≡ None) × AreDistinct (keys tree))
 
 -- what is valid, or sane, under any rules is so under those of consensus
 abbrev pub ValidUnderConsensus : Type 0

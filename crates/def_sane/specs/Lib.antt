@@ -7,3 +7,4 @@ pub mod FirstNodes
 pub mod Refusals
 pub mod Allowed
 pub mod Scripts
+pub mod Repeats

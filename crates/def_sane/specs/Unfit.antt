@@ -3,11 +3,11 @@
 use Rattle.std.specs.Prelude.{◌≡◌, ℕ, nat_lt, Bool, false, List, [], ◌∷◌, Option, Some, None, Result, Ok, Err, if◌then◌else◌}
 use Rattle.def_script.specs.Limits.{MAX_SCRIPT_SIZE, MAX_OPS_PER_SCRIPT}
 use Rattle.def_tree.specs.Tree.{Tree}
-use Rattle.def_types.specs.declared.Ty.{Ty}
-use Rattle.def_types.specs.declared.Mall.{Mall}
+use Rattle.def_types.specs.declared.CorrectnessType.{CorrectnessType}
+use Rattle.def_types.specs.declared.MalleabilityProperties.{MalleabilityProperties}
 use Rattle.def_types.specs.declared.rule.RuleAt.{RuleAt}
-use Rattle.def_types.specs.Corr.{is_b, corr}
-use Rattle.def_types.specs.Malleable.{mall}
+use Rattle.def_types.specs.Correctness.{is_b, correctness_of}
+use Rattle.def_types.specs.Malleable.{malleability_of}
 use Rattle.def_limits.specs.declared.Limits.{Limits}
 use Rattle.def_sane.specs.declared.Rules.{Rules}
 use Rattle.def_sane.specs.declared.Rules.TheVariants.{Policy, Consensus}
@@ -38,12 +38,12 @@ are_too_many Policy items = nat_lt MOST_ITEMS items
 are_too_many Consensus items = false
 
 -- 1: a correctness requirement fails; the first
-abbrev pub broken_rule : Result Ty RuleAt → Option Unfit
+abbrev pub broken_rule : Result CorrectnessType RuleAt → Option Unfit
 broken_rule (Ok ty) = None
 broken_rule (Err at) = Some (unfit.Rule at)
 
 -- 2: the top isn't of type B
-abbrev pub wrong_top : Result Ty RuleAt → Option Unfit
+abbrev pub wrong_top : Result CorrectnessType RuleAt → Option Unfit
 wrong_top (Ok ty) = if is_b ty.base then None else Some unfit.TopNotB
 wrong_top (Err at) = None
 
@@ -58,13 +58,13 @@ abbrev pub too_many_items : Rules → Limits → Option Unfit
 too_many_items rules limits = if are_too_many rules limits.items then Some (unfit.Items limits.items) else None
 
 -- 6: a malleability requirement fails; the first
-abbrev pub malleable : Result Mall RuleAt → Option Unfit
-malleable (Ok mall) = None
+abbrev pub malleable : Result MalleabilityProperties RuleAt → Option Unfit
+malleable (Ok malleability_of) = None
 malleable (Err at) = Some (unfit.Malleable at)
 
 -- 7: the top hasn't the property s
-abbrev pub no_signature : Result Mall RuleAt → Option Unfit
-no_signature (Ok mall) = if mall.s then None else Some unfit.NoSignature
+abbrev pub no_signature : Result MalleabilityProperties RuleAt → Option Unfit
+no_signature (Ok malleability_of) = if malleability_of.s then None else Some unfit.NoSignature
 no_signature (Err at) = None
 
 -- 8: a node mixes timelocks; the first
@@ -87,14 +87,14 @@ first_reason (Some reason ∷ rest) = Some reason
 abbrev pub first_unfit_valid_by : Rules → Tree → Limits → Option Unfit
 first_unfit_valid_by rules tree limits =
     first_reason (
-    broken_rule (corr tree) ∷ wrong_top (corr tree) ∷
+    broken_rule (correctness_of tree) ∷ wrong_top (correctness_of tree) ∷
     too_large rules limits ∷ too_many_ops limits ∷ too_many_items rules limits ∷ [])
 
 -- the first reason of 1 to 9
 abbrev pub first_unfit_by : Rules → Tree → Limits → Option Unfit
 first_unfit_by rules tree limits =
     first_reason (
-    first_unfit_valid_by rules tree limits ∷ malleable (mall tree) ∷ no_signature (mall tree) ∷
+    first_unfit_valid_by rules tree limits ∷ malleable (malleability_of tree) ∷ no_signature (malleability_of tree) ∷
     mixed_locks (mix tree) ∷ repeated (repeated_key tree) ∷ [])
 
 -- the first reason of 1 to 5, and of 1 to 9, by the limits of the tree
@@ -126,14 +126,14 @@ IsSane tree = IsSaneUnder Policy tree
 
 -- what is known of a valid tree, and of a sane one
 abbrev pub IsKnownValidUnder : Rules → Tree → Valid → Type 0
-IsKnownValidUnder rules tree valid = IsValidUnder rules tree × (corr tree ≡ Ok valid.ty) × AreLimits tree valid.limits
+IsKnownValidUnder rules tree valid = IsValidUnder rules tree × (correctness_of tree ≡ Ok valid.ty) × AreLimits tree valid.limits
 
 abbrev pub IsKnownValid : Tree → Valid → Type 0
 IsKnownValid tree valid = IsKnownValidUnder Policy tree valid
 
 abbrev pub IsKnownSaneUnder : Rules → Tree → Sane → Type 0
 IsKnownSaneUnder rules tree sane =
-    IsSaneUnder rules tree × (corr tree ≡ Ok sane.ty) × (mall tree ≡ Ok sane.mall) × AreLimits tree sane.limits
+    IsSaneUnder rules tree × (correctness_of tree ≡ Ok sane.ty) × (malleability_of tree ≡ Ok sane.malleability_of) × AreLimits tree sane.limits
 
 abbrev pub IsKnownSane : Tree → Sane → Type 0
 IsKnownSane tree sane = IsKnownSaneUnder Policy tree sane

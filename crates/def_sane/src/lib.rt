@@ -5,7 +5,7 @@ pub mod examples;
 pub mod laws;
 
 pub use def_limits::Limits;
-pub use def_types::{Mall, RuleAt, Ty};
+pub use def_types::{CorrectnessType, MalleabilityProperties, RuleAt};
 
 /// Whose limits hold: those of policy, within which nodes relay a transaction, or those of consensus alone, within
 /// which a block may hold it.
@@ -44,7 +44,7 @@ pub enum Unfit {
 #[derive(Clone, Copy, Debug, PartialEq, Eq)]
 pub struct Valid {
     /// Its correctness type.
-    pub ty: Ty,
+    pub ty: CorrectnessType,
     /// Its limits.
     pub limits: Limits,
 }
@@ -53,9 +53,9 @@ pub struct Valid {
 #[derive(Clone, Copy, Debug, PartialEq, Eq)]
 pub struct Sane {
     /// Its correctness type.
-    pub ty: Ty,
+    pub ty: CorrectnessType,
     /// Its malleability properties.
-    pub mall: Mall,
+    pub malleability_of: MalleabilityProperties,
     /// Its limits.
     pub limits: Limits,
 }

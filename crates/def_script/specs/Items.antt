@@ -17,7 +17,7 @@ every_op =
     op.If ∷ op.NotIf ∷ op.Else ∷ op.EndIf ∷ op.Verify ∷ op.ToAltStack ∷ op.FromAltStack ∷ op.IfDup ∷ op.Dup
     ∷ op.Swap ∷ op.Size ∷ op.Equal ∷ op.EqualVerify ∷ op.ZeroNotEqual ∷ op.Add ∷ op.BoolAnd ∷ op.BoolOr
     ∷ op.Ripemd160 ∷ op.Sha256 ∷ op.Hash160 ∷ op.Hash256 ∷ op.CheckSig ∷ op.CheckSigVerify ∷ op.CheckMultiSig
-    ∷ op.CheckMultiSigVerify ∷ op.Cltv ∷ op.Csv ∷ []
+    ∷ op.CheckMultiSigVerify ∷ op.CheckLockTimeVerify ∷ op.CheckSequenceVerify ∷ []
 
 -- the opcode for which a byte stands
 abbrev pub op_of_byte : ℕ → Option Op

@@ -36,8 +36,8 @@ opcode_byte op.CheckSig = 0xac
 opcode_byte op.CheckSigVerify = 0xad
 opcode_byte op.CheckMultiSig = 0xae
 opcode_byte op.CheckMultiSigVerify = 0xaf
-opcode_byte op.Cltv = 0xb1
-opcode_byte op.Csv = 0xb2
+opcode_byte op.CheckLockTimeVerify = 0xb1
+opcode_byte op.CheckSequenceVerify = 0xb2
 
 -- the shortest push by a length: the length alone up to 75, or after PUSHDATA1, PUSHDATA2 or
 -- PUSHDATA4 in 1, 2 or 4 bytes, low byte first

@@ -60,9 +60,9 @@ pub enum Op {
     /// `OP_CHECKMULTISIGVERIFY`, the byte `af`.
     CheckMultiSigVerify,
     /// `OP_CHECKLOCKTIMEVERIFY` (BIP 65), the byte `b1`.
-    Cltv,
+    CheckLockTimeVerify,
     /// `OP_CHECKSEQUENCEVERIFY` (BIP 112), the byte `b2`.
-    Csv,
+    CheckSequenceVerify,
 }
 
 /// Why an instruction can't be read from the bytes of a Script.

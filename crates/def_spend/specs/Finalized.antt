@@ -3,13 +3,14 @@ use Rattle.std.specs.Prelude.{ℕ, ◌||◌, ◌&&◌, not, Bool, List, [], ◌�
 use Rattle.std.specs.List.{flat_map, list_all, list_any}
 use Rattle.std.specs.Int.{w32, to_le_bytes}
 use Rattle.def_script.specs.Bytes.{Bytes}
-use Rattle.def_script.specs.Witness.{witness_text}
+use Rattle.def_script.specs.Witness.{items_text, witness_text}
 use Rattle.def_psbt.specs.Transaction.{TransactionInput, Transaction, inputs_text, outputs_text, transaction_text, id_of}
 use Rattle.def_psbt.specs.Map.{Pair, Map, Psbt, type_of}
 use Rattle.def_spend.specs.Fields.{PARTIAL_SIG, FINAL_SCRIPTSIG, FINAL_SCRIPTWITNESS, RIPEMD160, HASH256, field, is_between}
 use Rattle.def_spend.specs.Hashes.{script_in}
 use Rattle.def_spend.specs.Input.{Spend}
-use Rattle.def_spend.specs.Kinds.{open_script_sig}
+use Rattle.def_spend.specs.declared.Kind.{Kind}
+use Rattle.def_spend.specs.Kinds.{kind_of, ends_in_script, open_script_sig}
 use Rattle.def_spend.specs.Reading.{Input, has_byte, has_item, has_final}
 use Rattle.def_spend.specs.States.{state_of, is_ready, stack_of}
 
@@ -41,9 +42,13 @@ final_map fields script_sig witness = filter is_kept fields ++ final_pairs scrip
 abbrev pub script_sig_of : Spend → Bytes
 script_sig_of spend = unwrap_or (open_script_sig spend) []
 
--- the witness of a Ready input: its satisfaction, and the witness script
+-- the witness of a kind (BIP 141): the satisfaction, and of P2WSH the witness script behind it
+abbrev pub witness_by : Kind → (stack : List Bytes) → (script : Bytes) → Bytes
+witness_by kind stack script = if ends_in_script kind then witness_text stack script else items_text stack
+
+-- the witness of a Ready input
 abbrev pub witness_of : Input → Bytes
-witness_of input = witness_text (stack_of input) (script_in input.spend)
+witness_of input = witness_by (kind_of input.spend) (stack_of input) (script_in input.spend)
 
 -- the map as it is written
 abbrev pub written_map : Input → Map

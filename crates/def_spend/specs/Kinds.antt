@@ -1,5 +1,5 @@
 -- The kinds of spent outputs: the program that guards one, which is its Script, or of which it has the hash (BIP 16, BIP 141).
-use Rattle.std.specs.Prelude.{◌≡◌, ◌⊎◌, ◌==◌, ◌&&◌, Bool, false, [], ◌∷◌, ◌++◌, length, slice_index, if◌then◌else◌, Option, Some, None, Result, Ok, Err, unwrap_or}
+use Rattle.std.specs.Prelude.{◌≡◌, ◌⊎◌, ◌==◌, ◌&&◌, Bool, true, false, [], ◌∷◌, ◌++◌, length, slice_index, if◌then◌else◌, Option, Some, None, Result, Ok, Err, unwrap_or}
 use Rattle.std.specs.Str.{bytes_eq}
 use Rattle.def_hash.specs.Hash.{hash160}
 use Rattle.def_script.specs.Bytes.{Bytes}
@@ -59,9 +59,16 @@ spent_program spend = program_of_utxo (spent_utxo spend) (field REDEEM_SCRIPT sp
 abbrev pub is_script_hash : (program : Bytes) → Bool
 is_script_hash program = (length program == 34) && (slice_index program 0 == 0x00) && (slice_index program 1 == 0x20)
 
+-- version 0 and 20 bytes (BIP 141, P2WPKH)
+abbrev pub is_key_hash : (program : Bytes) → Bool
+is_key_hash program = (length program == 22) && (slice_index program 0 == 0x00) && (slice_index program 1 == 0x14)
+
 -- the kind of a program, in P2SH or by itself
 abbrev pub kind_by : (nested : Bool) → (program : Bytes) → Kind
-kind_by nested program = if is_script_hash program then (if nested then kind.P2shP2wsh else kind.P2wsh) else kind.Other
+kind_by nested program =
+    if is_script_hash program then (if nested then kind.P2shP2wsh else kind.P2wsh)
+    else if is_key_hash program then (if nested then kind.P2shP2wpkh else kind.P2wpkh)
+    else kind.Other
 
 abbrev pub kind_with : (nested : Bool) → Result Bytes State → Kind
 kind_with nested (Ok program) = kind_by nested program
@@ -80,7 +87,9 @@ pushed bytes = length bytes ∷ bytes
 -- the scriptSig that spends an output of a kind, where that is known: empty, and of P2SH the one push of the redeem script
 abbrev pub script_sig_by : Kind → (redeem : Bytes) → Option Bytes
 script_sig_by kind.P2wsh redeem = Some []
+script_sig_by kind.P2wpkh redeem = Some []
 script_sig_by kind.P2shP2wsh redeem = Some (pushed redeem)
+script_sig_by kind.P2shP2wpkh redeem = Some (pushed redeem)
 script_sig_by kind.Other redeem = None
 
 abbrev pub open_script_sig : Spend → Option Bytes
@@ -90,3 +99,14 @@ open_script_sig spend = script_sig_by (kind_of spend) (unwrap_or (field REDEEM_S
 abbrev pub IsGuardedBy : (program output script_sig : Bytes) → Type 0
 IsGuardedBy program output script_sig =
     ((output ≡ program) × (script_sig ≡ [])) ⊎ ((output ≡ p2sh_of program) × (script_sig ≡ pushed program))
+
+-- ---- the witness
+
+-- whether the witness that spends an output of a kind ends in a Script: the witness script of P2WSH (BIP 141). That of P2WPKH is a
+-- signature and the public key
+abbrev pub ends_in_script : Kind → Bool
+ends_in_script kind.P2wsh = true
+ends_in_script kind.P2wpkh = false
+ends_in_script kind.P2shP2wsh = true
+ends_in_script kind.P2shP2wpkh = false
+ends_in_script kind.Other = false

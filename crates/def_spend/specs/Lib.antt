@@ -7,7 +7,9 @@ pub mod Input
 pub mod Hashes
 pub mod Kinds
 pub mod Reading
+pub mod Good
 pub mod States
 pub mod Asking
 pub mod Finalized
 pub mod SignedExamples
+pub mod GoodExamples

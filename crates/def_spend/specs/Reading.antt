@@ -1,5 +1,5 @@
 -- The Script that an input has to satisfy, and the miniscript that it is read as.
-use Rattle.std.specs.Prelude.{◌≡◌, ◌||◌, not, Bool, false, List, [], ◌∷◌, map, All, if◌then◌else◌, Option, Some, None, Result, Ok, Err}
+use Rattle.std.specs.Prelude.{◌≡◌, ◌||◌, not, Bool, false, List, [], ◌∷◌, ◌++◌, drop, map, All, if◌then◌else◌, Option, Some, None, Result, Ok, Err}
 use Rattle.std.specs.Str.{bytes_eq}
 use Rattle.def_script.specs.Bytes.{Bytes}
 use Rattle.def_machine.specs.Program.{program_of}
@@ -8,9 +8,10 @@ use Rattle.def_decode.specs.Decoded.{IsReading, IsDecoded}
 use Rattle.def_psbt.specs.Map.{Map, Psbt}
 use Rattle.def_spend.specs.declared.State.{State}
 use Rattle.def_spend.specs.declared.State.TheVariants as state
+use Rattle.def_spend.specs.declared.Verification.{Verification}
 use Rattle.def_spend.specs.Fields.{WITNESS_SCRIPT, FINAL_SCRIPTSIG, FINAL_SCRIPTWITNESS, field, keys_in}
 use Rattle.def_spend.specs.Input.{Spend, spends_of}
-use Rattle.def_spend.specs.Kinds.{is_script_hash, spent_program}
+use Rattle.def_spend.specs.Kinds.{is_script_hash, is_key_hash, spent_program}
 
 -- ---- the Script
 
@@ -31,9 +32,18 @@ abbrev pub script_for : (program : Bytes) → (script : Option Bytes) → Result
 script_for program None = Err state.NoScript
 script_for program (Some script) = if bytes_eq program (program_of script) then Ok script else Err state.WrongScript
 
--- the Script of a program: of version 0 and 32 bytes the witness script (BIP 141, P2WSH)
+-- the Script of a program that has the HASH160 of a public key: DUP, HASH160, a push of these 20 bytes, EQUALVERIFY, CHECKSIG
+-- (BIP 143, the `scriptCode` of P2WPKH)
+abbrev pub key_hash_script : (program : Bytes) → Bytes
+key_hash_script program = 0x76 ∷ 0xa9 ∷ 0x14 ∷ drop 2 program ++ 0x88 ∷ 0xac ∷ []
+
+-- the Script of a program: of version 0 and 32 bytes the witness script, and of version 0 and 20 bytes that of the public key's hash,
+-- whatever the map has for a witness script (BIP 141, P2WSH and P2WPKH)
 abbrev pub script_of_program : (program : Bytes) → (script : Option Bytes) → Result Bytes State
-script_of_program program script = if is_script_hash program then script_for program script else Err state.OtherOutput
+script_of_program program script =
+    if is_script_hash program then script_for program script
+    else if is_key_hash program then Ok (key_hash_script program)
+    else Err state.OtherOutput
 
 abbrev pub script_with : Result Bytes State → (script : Option Bytes) → Result Bytes State
 script_with (Ok program) script = script_of_program program script
@@ -68,6 +78,6 @@ abbrev pub HasReading : Input → Type 0
 HasReading input = ReadsAs (keys_in input.spend.fields) (script_code input.spend) input.tree
 
 -- the inputs of a PSBT, each read
-pub record AreInputs (psbt : Psbt) (inputs : List Input) : Type 0 where
-  pub spends : map (λ input. input.spend) inputs ≡ spends_of psbt
+pub record AreInputs (verification : Verification) (psbt : Psbt) (inputs : List Input) : Type 0 where
+  pub spends : map (λ input. input.spend) inputs ≡ spends_of verification psbt
   pub read : All HasReading inputs

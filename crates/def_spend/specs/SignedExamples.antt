@@ -9,6 +9,8 @@ use Rattle.def_spend.specs.declared.SignedOutputs.TheVariants as outputs
 use Rattle.std.specs.Prelude.{true, false}
 use Rattle.def_spend.specs.declared.HashType.{HashType}
 use Rattle.def_spend.specs.HashTypes.{hash_type, hash_type_of}
+use Rattle.def_spend.specs.Kinds.{is_key_hash}
+use Rattle.def_spend.specs.Reading.{key_hash_script}
 use Rattle.def_spend.specs.SignatureHash.{hash_prevouts, hash_sequence, hash_outputs, signature_hash, signed_outputs, NO_HASH}
 
 abbrev pub input : (id : Bytes) → (index sequence : ℕ) → TransactionInput
@@ -42,6 +44,14 @@ SignedOfTwo =
     × (signature_hash (hash_type All false) two_inputs 1 second_input
     (from_hex "76a9141d0f172a0ecb48aee1be1f2687d2963ae33f71a188ac") 600000000
     ≡ from_hex "c37af31116d1b27caf68aae9e3ac82f1477929014d5b917657d0eb49478cb670")
+
+-- the program of the second input, and the Script that is signed for it
+abbrev pub second_program : Bytes
+second_program = from_hex "00141d0f172a0ecb48aee1be1f2687d2963ae33f71a1"
+
+abbrev pub ScriptOfSecond : Type 0
+ScriptOfSecond =
+    (is_key_hash second_program ≡ true) × (key_hash_script second_program ≡ from_hex "76a9141d0f172a0ecb48aee1be1f2687d2963ae33f71a188ac")
 
 -- ---- "P2SH-P2WSH": a witness script of six keys
 

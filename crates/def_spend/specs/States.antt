@@ -13,7 +13,8 @@ use Rattle.def_spend.specs.declared.State.{State}
 use Rattle.def_spend.specs.declared.State.TheVariants as state
 use Rattle.def_spend.specs.Fields.{signatures_in, preimages_in, last_byte, asked_type}
 use Rattle.def_spend.specs.HashTypes.{hash_type_of}
-use Rattle.def_spend.specs.Input.{Spend, assets_of}
+use Rattle.def_spend.specs.Input.{Spend}
+use Rattle.def_spend.specs.Good.{assets_of}
 use Rattle.def_spend.specs.Reading.{Input, script_code}
 
 -- a signature of another type than this one

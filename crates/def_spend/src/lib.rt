@@ -5,6 +5,15 @@ pub mod examples;
 
 pub use def_sane::Unfit;
 
+/// Which signatures of an input count.
+#[derive(Clone, Copy, Debug, PartialEq, Eq)]
+pub enum Verification {
+    /// Only good signatures count.
+    Verified,
+    /// Every signature counts, whether it is good or not.
+    Unverified,
+}
+
 /// Which outputs a signature signs (BIP 143; Bitcoin Core: `SIGHASH_ALL`, `SIGHASH_NONE`, `SIGHASH_SINGLE`).
 #[derive(Clone, Copy, Debug, PartialEq, Eq)]
 pub enum SignedOutputs {
@@ -30,8 +39,12 @@ pub struct HashType {
 pub enum Kind {
     /// P2WSH: version 0 and the SHA-256 of the witness script.
     P2wsh,
-    /// P2SH of such a program.
+    /// P2WPKH: version 0 and the HASH160 of a public key.
+    P2wpkh,
+    /// P2SH of a program of P2WSH.
     P2shP2wsh,
+    /// P2SH of a program of P2WPKH.
+    P2shP2wpkh,
     /// Any other one, and P2SH of which the redeem script isn't known.
     Other,
 }
@@ -45,11 +58,11 @@ pub enum State {
     NoUtxo,
     /// The previous transaction isn't that of the outpoint, or has no such output, or has another one than the map.
     WrongUtxo,
-    /// The spent output isn't P2WSH, by itself or in P2SH.
+    /// The spent output is neither P2WSH nor P2WPKH, by itself or in P2SH.
     OtherOutput,
-    /// Its map has no redeem script of a P2SH output, or no witness script.
+    /// Its map has no redeem script of a P2SH output, or no witness script of P2WSH.
     NoScript,
-    /// The spent output isn't that of the redeem script, or the program isn't that of the witness script.
+    /// The spent output isn't that of the redeem script, or the program of P2WSH isn't that of the witness script.
     WrongScript,
     /// No miniscript has this Script, with the keys of the map.
     NoReading,

@@ -6,8 +6,7 @@ use Rattle.std.proofs.Common.{◌≡◌, ℕ, ◌+◌, ◌≤◌, max, Bool, fal
 use Rattle.std.proofs.lemmas.Bool.{ltb-false}
 use Rattle.def_script.specs.Bytes.{Bytes}
 use Rattle.def_tree.specs.Tree.{Tree, Trees, just_0, none, more}
-use Rattle.def_tree.specs.Size.{depth, depth_of}
-use Rattle.def_tree.specs.Range.{MOST_DEPTH}
+use Rattle.def_tree.specs.InRange.{depth, depth_of, MOST_DEPTH}
 use Rattle.def_text.specs.declared.TextFault.TheVariants.{Syntax, TooDeep}
 use Rattle.def_text.specs.Token.{Token, word, closing, comma, end, offset, tokens}
 use Rattle.def_text.specs.Letter.{Letter, letter_tree}

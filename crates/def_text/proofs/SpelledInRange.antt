@@ -3,7 +3,7 @@ use Rattle.std.proofs.Common.{◌≤◌, ℕ, List, length, arith}
 use Rattle.std.specs.Str.{IsUtf8}
 use Rattle.def_script.specs.Bytes.{Bytes}
 use Rattle.def_tree.specs.Tree.{Tree}
-use Rattle.def_tree.specs.Range.{IsInRange}
+use Rattle.def_tree.specs.InRange.{IsInRange}
 use Rattle.def_text.specs.Refusal.{MOST_BYTES, TextReads}
 use Rattle.def_text.proofs.SpelledWritable.{spelled_writable}
 use Rattle.def_text.proofs.SpelledMeasure.{measure_of_text}

@@ -2,7 +2,7 @@
 use Rattle.std.proofs.Common.{◌≡◌, ℕ, ◌+◌, ◌*◌, ◌≤◌, false, List, [], ◌∷◌, ◌++◌, length, arith}
 use Rattle.def_script.specs.Bytes.{Bytes}
 use Rattle.def_tree.specs.Tree.{Key, Tree, Trees}
-use Rattle.def_tree.specs.Size.{measure, measure_of}
+use Rattle.def_tree.specs.InRange.{measure, measure_of}
 use Rattle.def_text.specs.Token.{Token, word, end, word_before, byte_before, tokens_from, tokens}
 use Rattle.def_text.specs.Letter.{Letter, letter_word, letter_tree, letters_tree}
 use Rattle.def_text.specs.Spells.{Spells, text_hash, text_andor, text_two, text_and_n, text_thresh, text_multi, text_letters, SpellsChildren, last_child, next_child, SpellsKeys, last_key, next_key, SpellsText, text_whole}

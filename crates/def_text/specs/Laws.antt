@@ -4,7 +4,8 @@ use Rattle.std.specs.Prelude.{◌≡◌, ◌⊎◌, ℕ, List, IsUtf8, length}
 use Rattle.def_script.specs.Bytes.{Bytes}
 use Rattle.def_tree.specs.Tree.{Tree}
 use Rattle.def_tree.specs.Size.{nodes}
-use Rattle.def_tree.specs.Range.{IsWritable, IsInRange}
+use Rattle.def_tree.specs.Range.{IsWritable}
+use Rattle.def_tree.specs.InRange.{IsInRange}
 use Rattle.def_text.specs.Print.{printed}
 use Rattle.def_text.specs.declared.TextFault.{TextFault}
 use Rattle.def_text.specs.Token.{Token, tokens}

@@ -283,8 +283,8 @@ acted given op.CheckMultiSig s t is = checked_tells op.CheckMultiSig s t (λ alt
 acted given op.CheckMultiSigVerify s t is =
     let h = bound (on_multi (check_multi_sig given.checker) s) (on_main verify) t is in
     check_verify_tells op.CheckMultiSigVerify s h.first t (λ alt branches. (refl, refl)) (λ n. refl) (multi_checked given.checker s h.first h.is) h.next
-acted given op.Cltv s t is = main_tells op.Cltv 0 (lock (λ n. after_holds n given.locks)) s t (λ alt branches. (refl, refl)) (λ n. refl) (lock_trades _) is
-acted given op.Csv s t is = main_tells op.Csv 0 (lock (λ n. older_holds n given.locks)) s t (λ alt branches. (refl, refl)) (λ n. refl) (lock_trades _) is
+acted given op.CheckLockTimeVerify s t is = main_tells op.CheckLockTimeVerify 0 (lock (λ n. after_holds n given.locks)) s t (λ alt branches. (refl, refl)) (λ n. refl) (lock_trades _) is
+acted given op.CheckSequenceVerify s t is = main_tells op.CheckSequenceVerify 0 (lock (λ n. older_holds n given.locks)) s t (λ alt branches. (refl, refl)) (λ n. refl) (lock_trades _) is
 
 -- ---- a step
 

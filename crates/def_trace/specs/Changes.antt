@@ -38,8 +38,8 @@ opcode_puts op.ToAltStack before after = 0
 opcode_puts op.EqualVerify before after = 0
 opcode_puts op.CheckSigVerify before after = 0
 opcode_puts op.CheckMultiSigVerify before after = 0
-opcode_puts op.Cltv before after = 0
-opcode_puts op.Csv before after = 0
+opcode_puts op.CheckLockTimeVerify before after = 0
+opcode_puts op.CheckSequenceVerify before after = 0
 opcode_puts other before after = 1
 
 -- how many elements left the main stack, where so many were put on it

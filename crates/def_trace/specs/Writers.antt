@@ -56,8 +56,8 @@ abbrev mutual
   attributed first (pk_k key) = by first (push key) ∷ []
   attributed first (pk_h key) =
       by first (code op.Dup) ∷ by first (code op.Hash160) ∷ by first (push (hash160 key)) ∷ by first (code op.EqualVerify) ∷ []
-  attributed first (older n) = by first (push_number n) ∷ by first (code op.Csv) ∷ []
-  attributed first (after n) = by first (push_number n) ∷ by first (code op.Cltv) ∷ []
+  attributed first (older n) = by first (push_number n) ∷ by first (code op.CheckSequenceVerify) ∷ []
+  attributed first (after n) = by first (push_number n) ∷ by first (code op.CheckLockTimeVerify) ∷ []
   attributed first (hash kind value) =
       by first (code op.Size) ∷ by first (push_number 32) ∷ by first (code op.EqualVerify)
       ∷ by first (code (hash_opcode kind)) ∷ by first (push value) ∷ by first (code op.Equal) ∷ []

@@ -42,8 +42,8 @@ op_name op.CheckSig = codes "OP_CHECKSIG"
 op_name op.CheckSigVerify = codes "OP_CHECKSIGVERIFY"
 op_name op.CheckMultiSig = codes "OP_CHECKMULTISIG"
 op_name op.CheckMultiSigVerify = codes "OP_CHECKMULTISIGVERIFY"
-op_name op.Cltv = codes "OP_CHECKLOCKTIMEVERIFY"
-op_name op.Csv = codes "OP_CHECKSEQUENCEVERIFY"
+op_name op.CheckLockTimeVerify = codes "OP_CHECKLOCKTIMEVERIFY"
+op_name op.CheckSequenceVerify = codes "OP_CHECKSEQUENCEVERIFY"
 
 -- an instruction: a push by the bytes that it pushes, an opcode by its name, and what can't be read by its first byte
 abbrev pub instruction_text : Item → (first : ℕ) → Bytes

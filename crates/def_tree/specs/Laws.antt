@@ -2,7 +2,8 @@
 use Rattle.std.specs.Prelude.{◌≡◌, [], ◌∷◌, ◌++◌, length}
 use Rattle.def_tree.specs.Tree.{Tree}
 use Rattle.def_tree.specs.Size.{nodes}
-use Rattle.def_tree.specs.Nodes.{all_nodes, nodes_of_all, children}
+use Rattle.def_tree.specs.Nodes.{all_nodes, nodes_of_all}
+use Rattle.def_tree.specs.Children.{children}
 
 -- the list of nodes has as many as the tree
 abbrev pub NodesAreAll : Type 0

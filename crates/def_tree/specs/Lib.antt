@@ -3,3 +3,5 @@ pub mod Size
 pub mod Nodes
 pub mod Range
 pub mod Laws
+pub mod InRange
+pub mod Children

@@ -1,5 +1,4 @@
--- The nodes of a tree, each as the tree below it, in the order of their numbers: children before parents,
--- left to right. The node of number n is the one at place n.
+-- The nodes of a tree, each as the tree below it, by their numbers: children before parents, left to right; number n at place n.
 use Rattle.std.specs.Prelude.{List, [], ◌∷◌, ◌++◌}
 use Rattle.def_tree.specs.Tree.{Tree, Trees, just_0, just_1, pk_k, pk_h, older, after, hash, and_or, two, thresh, multi, wrap, none, more}
 
@@ -21,18 +20,3 @@ abbrev mutual
   pub nodes_of_all : Trees → List Tree
   nodes_of_all none = []
   nodes_of_all (more x xs) = all_nodes x ++ nodes_of_all xs
-
--- the children of the root, from left to right
-abbrev pub children : Tree → Trees
-children just_0 = none
-children just_1 = none
-children (pk_k key) = none
-children (pk_h key) = none
-children (older n) = none
-children (after n) = none
-children (hash kind value) = none
-children (and_or x y z) = more x (more y (more z none))
-children (two kind x y) = more x (more y none)
-children (thresh k xs) = xs
-children (multi k keys) = none
-children (wrap wrapper x) = more x none

@@ -1,17 +1,10 @@
--- Which trees the calls take. What a text of 65,536 bytes can spell stays within these numbers.
+-- Which trees can be written in a text.
 use Rattle.std.specs.Prelude.{ℕ, ◌≡◌, ◌+◌, ◌<◌, ◌≤◌, IsTrue, ⊤, length, All}
 use Rattle.def_hash.specs.declared.HashKind.{HashKind}
 use Rattle.def_hash.specs.Hash.{digest_length}
 use Rattle.def_script.specs.Bytes.{Bytes, IsBytes}
 use Rattle.def_script.specs.Key.{is_key}
 use Rattle.def_tree.specs.Tree.{Key, Tree, Trees, just_0, just_1, pk_k, pk_h, older, after, hash, and_or, two, thresh, multi, wrap, none, more}
-use Rattle.def_tree.specs.Size.{measure, depth}
-
-abbrev pub MOST_MEASURE : ℕ
-MOST_MEASURE = 131072
-
-abbrev pub MOST_DEPTH : ℕ
-MOST_DEPTH = 257
 
 -- how many trees a list has
 abbrev pub count : Trees → ℕ
@@ -52,9 +45,3 @@ abbrev mutual
   pub AreWritable : Trees → Type 0
   AreWritable none = ⊤
   AreWritable (more x xs) = IsWritable x × AreWritable xs
-
--- the tree is in range
-pub record IsInRange (t : Tree) : Type 0 where
-  pub measure : measure t ≤ MOST_MEASURE
-  pub depth : depth t ≤ MOST_DEPTH
-  pub writable : IsWritable t

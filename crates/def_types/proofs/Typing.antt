@@ -6,16 +6,16 @@ use Rattle.def_tree.specs.Tree.{Tree, Trees, and_or, two, thresh, wrap, none, mo
 use Rattle.def_tree.specs.Size.{nodes, nodes_of}
 use Rattle.def_tree.specs.Nodes.{all_nodes, nodes_of_all}
 use Rattle.def_tree.proofs.NodeLists.{nodes_are_all, trees_are_all}
-use Rattle.def_types.specs.declared.Ty.{Ty}
-use Rattle.def_types.specs.declared.Mall.{Mall}
+use Rattle.def_types.specs.declared.CorrectnessType.{CorrectnessType}
+use Rattle.def_types.specs.declared.MalleabilityProperties.{MalleabilityProperties}
 use Rattle.def_types.specs.declared.rule.Rule.{Rule}
 use Rattle.def_types.specs.declared.rule.RuleAt.{RuleAt}
 use Rattle.def_types.specs.Row.{Need, need, AllHold, Rows, unless_broken, answer, if_ok}
 use Rattle.def_types.specs.System.{gives, gives_each, row_of, EveryHolds, IsFirstFalse, IsMet, AreMet, typed_from, typed_each}
-use Rattle.def_types.specs.Corr.{correctness, corr}
-use Rattle.def_types.specs.Malleable.{malleability, mall}
-use Rattle.def_types.specs.Typed.{type_of, IsTyped, mall_of, IsMallTyped}
-use Rattle.def_types.specs.Laws.{CorrIsTyped, CorrIsFirst, MallIsNonMalleable, MallIsFirst, TypedMeans, NonMalleableMeans}
+use Rattle.def_types.specs.Correctness.{correctness, correctness_of}
+use Rattle.def_types.specs.Malleable.{malleability, malleability_of}
+use Rattle.def_types.specs.Typed.{type_of, IsTyped, properties_of, IsMalleabilityTyped}
+use Rattle.def_types.specs.Laws.{CorrectnessIsTyped, CorrectnessIsFirst, MalleabilityIsTyped, MalleabilityIsFirst, TypedMeans, NonMalleableMeans}
 
 -- the first requirement of a row that is false
 abbrev broken : List Need → Option Rule
@@ -302,23 +302,23 @@ module _ {A : Type 0} (rows : Rows A) where
           typed-is 0 t ∙ rw g refl
 
 -- of both
-pub corr_is_typed : (tree : Tree) (ty : Ty) → (corr tree ≡ Ok ty) ↔ (IsTyped tree × (ty ≡ type_of tree))
-corr_is_typed tree ty = typed_is_met correctness tree ty
+pub correctness_is_typed : (tree : Tree) (ty : CorrectnessType) → (correctness_of tree ≡ Ok ty) ↔ (IsTyped tree × (ty ≡ type_of tree))
+correctness_is_typed tree ty = typed_is_met correctness tree ty
 
-pub mall_is_non_malleable : (tree : Tree) (properties : Mall) → (mall tree ≡ Ok properties) ↔ (IsMallTyped tree × (properties ≡ mall_of tree))
-mall_is_non_malleable tree properties = typed_is_met malleability tree properties
+pub malleability_is_typed : (tree : Tree) (properties : MalleabilityProperties) → (malleability_of tree ≡ Ok properties) ↔ (IsMalleabilityTyped tree × (properties ≡ properties_of tree))
+malleability_is_typed tree properties = typed_is_met malleability tree properties
 
-pub corr_is_every : CorrIsTyped
-corr_is_every tree ty = typed_is_every correctness tree ty
+pub correctness_is_every : CorrectnessIsTyped
+correctness_is_every tree ty = typed_is_every correctness tree ty
 
-pub corr_is_first : CorrIsFirst
-corr_is_first tree at = refused_is_first correctness tree at
+pub correctness_is_first : CorrectnessIsFirst
+correctness_is_first tree at = refused_is_first correctness tree at
 
-pub mall_is_every : MallIsNonMalleable
-mall_is_every tree properties = typed_is_every malleability tree properties
+pub malleability_is_every : MalleabilityIsTyped
+malleability_is_every tree properties = typed_is_every malleability tree properties
 
-pub mall_is_first : MallIsFirst
-mall_is_first tree at = refused_is_first malleability tree at
+pub malleability_is_first : MalleabilityIsFirst
+malleability_is_first tree at = refused_is_first malleability tree at
 
 pub typed_means : TypedMeans
 typed_means tree = met_means correctness tree

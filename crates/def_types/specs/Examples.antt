@@ -3,15 +3,15 @@ use Rattle.std.specs.Prelude.{◌≡◌, Bool, true, false, Ok}
 use Rattle.def_tree.specs.Tree.{Tree, just_0, just_1, older}
 use Rattle.def_types.specs.declared.Base.{Base}
 use Rattle.def_types.specs.declared.Base.TheVariants.{B}
-use Rattle.def_types.specs.Corr.{corr}
-use Rattle.def_types.specs.Malleable.{mall}
+use Rattle.def_types.specs.Correctness.{correctness_of}
+use Rattle.def_types.specs.Malleable.{malleability_of}
 use Rattle.def_types.specs.Samples.{KEY_A, KEY_B, KEY_C, pk, s, d, v, and_v, or_i}
 
 -- the tree has this base type, these of the properties z, o, n, d and u, and these of s, f and e
 abbrev pub HasType : Tree → Base → (z o n d u s f e : Bool) → Type 0
 HasType tree base z o n d u s f e =
-    (corr tree ≡ Ok (record { base = base; z = z; o = o; n = n; d = d; u = u })) ×
-    (mall tree ≡ Ok (record { s = s; f = f; e = e }))
+    (correctness_of tree ≡ Ok (record { base = base; z = z; o = o; n = n; d = d; u = u })) ×
+    (malleability_of tree ≡ Ok (record { s = s; f = f; e = e }))
 
 -- `pk(B)` is Bonduse
 abbrev pub KeyType : Type 0

@@ -1,6 +1,6 @@
 pub mod Row
 pub mod System
-pub mod Corr
+pub mod Correctness
 pub mod Malleable
 pub mod Samples
 pub mod Examples

@@ -1,4 +1,4 @@
--- Malleability properties (BIP 379, type system, malleability). The rows and their letters are read as in `Corr`;
+-- Malleability properties (BIP 379, type system, malleability). The rows and their letters are read as in `Correctness`;
 -- what a fragment requires is asked of every node.
 use Rattle.std.specs.Prelude.{ℕ, ◌+◌, true, false, ◌&&◌, ◌||◌, nat_lt, nat_le, List, [], ◌∷◌, Result, if◌then◌else◌}
 use Rattle.std.specs.List.{list_all}
@@ -7,30 +7,30 @@ use Rattle.def_tree.specs.declared.Two.TheVariants as two_kind
 use Rattle.def_tree.specs.declared.Wrapper.{Wrapper}
 use Rattle.def_tree.specs.declared.Wrapper.TheVariants as wrapper
 use Rattle.def_tree.specs.Tree.{Tree}
-use Rattle.def_types.specs.declared.Mall.{Mall}
+use Rattle.def_types.specs.declared.MalleabilityProperties.{MalleabilityProperties}
 use Rattle.def_types.specs.declared.rule.RuleAt.{RuleAt}
 use Rattle.def_types.specs.declared.rule.Rule.TheVariants as rule
 use Rattle.def_types.specs.Row.{Row, Rows, need}
 use Rattle.def_types.specs.System.{typed_from}
 
-unfoldable pub just_0_row : Row Mall
+unfoldable pub just_0_row : Row MalleabilityProperties
 just_0_row = record { needs = []; gives = record { s = true; f = false; e = true } }
 
-unfoldable pub just_1_row : Row Mall
+unfoldable pub just_1_row : Row MalleabilityProperties
 just_1_row = record { needs = []; gives = record { s = false; f = true; e = false } }
 
 -- `pk_k`, `pk_h` and `multi`
-unfoldable pub key_row : Row Mall
+unfoldable pub key_row : Row MalleabilityProperties
 key_row = record { needs = []; gives = record { s = true; f = false; e = true } }
 
 -- `older` and `after`
-unfoldable pub lock_row : Row Mall
+unfoldable pub lock_row : Row MalleabilityProperties
 lock_row = record { needs = []; gives = record { s = false; f = true; e = false } }
 
-unfoldable pub hash_row : Row Mall
+unfoldable pub hash_row : Row MalleabilityProperties
 hash_row = record { needs = []; gives = record { s = false; f = false; e = false } }
 
-unfoldable pub and_or_row : (x y z : Mall) → Row Mall
+unfoldable pub and_or_row : (x y z : MalleabilityProperties) → Row MalleabilityProperties
 and_or_row x y z = record {
   needs =
       need rule.AndOrE x.e ∷
@@ -42,13 +42,13 @@ and_or_row x y z = record {
   };
 }
 
-unfoldable pub and_v_row : (x y : Mall) → Row Mall
+unfoldable pub and_v_row : (x y : MalleabilityProperties) → Row MalleabilityProperties
 and_v_row x y = record {
   needs = [];
   gives = record { s = x.s || y.s; f = x.s || y.f; e = false };
 }
 
-unfoldable pub and_b_row : (x y : Mall) → Row Mall
+unfoldable pub and_b_row : (x y : MalleabilityProperties) → Row MalleabilityProperties
 and_b_row x y = record {
   needs = [];
   gives = record {
@@ -58,7 +58,7 @@ and_b_row x y = record {
   };
 }
 
-unfoldable pub or_b_row : (x z : Mall) → Row Mall
+unfoldable pub or_b_row : (x z : MalleabilityProperties) → Row MalleabilityProperties
 or_b_row x z = record {
   needs =
       need rule.OrBE (x.e && z.e) ∷
@@ -66,7 +66,7 @@ or_b_row x z = record {
   gives = record { s = x.s && z.s; f = false; e = true };
 }
 
-unfoldable pub or_c_row : (x z : Mall) → Row Mall
+unfoldable pub or_c_row : (x z : MalleabilityProperties) → Row MalleabilityProperties
 or_c_row x z = record {
   needs =
       need rule.OrCE x.e ∷
@@ -74,7 +74,7 @@ or_c_row x z = record {
   gives = record { s = x.s && z.s; f = true; e = false };
 }
 
-unfoldable pub or_d_row : (x z : Mall) → Row Mall
+unfoldable pub or_d_row : (x z : MalleabilityProperties) → Row MalleabilityProperties
 or_d_row x z = record {
   needs =
       need rule.OrDE x.e ∷
@@ -82,7 +82,7 @@ or_d_row x z = record {
   gives = record { s = x.s && z.s; f = z.f; e = z.e };
 }
 
-unfoldable pub or_i_row : (x z : Mall) → Row Mall
+unfoldable pub or_i_row : (x z : MalleabilityProperties) → Row MalleabilityProperties
 or_i_row x z = record {
   needs = need rule.OrIS (x.s || z.s) ∷ [];
   gives = record {
@@ -93,7 +93,7 @@ or_i_row x z = record {
 }
 
 -- the fragments with two children, in the order of the table
-unfoldable pub two_row : Two → (x y : Mall) → Row Mall
+unfoldable pub two_row : Two → (x y : MalleabilityProperties) → Row MalleabilityProperties
 two_row two_kind.AndV x y = and_v_row x y
 two_row two_kind.AndB x y = and_b_row x y
 two_row two_kind.OrB x z = or_b_row x z
@@ -102,11 +102,11 @@ two_row two_kind.OrD x z = or_d_row x z
 two_row two_kind.OrI x z = or_i_row x z
 
 -- how many of the children are not s
-abbrev pub count_not_s : List Mall → ℕ
+abbrev pub count_not_s : List MalleabilityProperties → ℕ
 count_not_s [] = 0
 count_not_s (x ∷ xs) = (if x.s then 0 else 1) + count_not_s xs
 
-unfoldable pub thresh_row : (k : ℕ) → (children : List Mall) → Row Mall
+unfoldable pub thresh_row : (k : ℕ) → (children : List MalleabilityProperties) → Row MalleabilityProperties
 thresh_row k xs = record {
   needs =
       need rule.ThreshE (list_all (λ x. x.e) xs) ∷
@@ -118,20 +118,20 @@ thresh_row k xs = record {
   };
 }
 
-unfoldable pub wrap_c_row : (x : Mall) → Row Mall
+unfoldable pub wrap_c_row : (x : MalleabilityProperties) → Row MalleabilityProperties
 wrap_c_row x = record { needs = []; gives = record { s = true; f = x.f; e = x.e } }
 
-unfoldable pub wrap_d_row : (x : Mall) → Row Mall
+unfoldable pub wrap_d_row : (x : MalleabilityProperties) → Row MalleabilityProperties
 wrap_d_row x = record { needs = []; gives = record { s = x.s; f = false; e = true } }
 
-unfoldable pub wrap_v_row : (x : Mall) → Row Mall
+unfoldable pub wrap_v_row : (x : MalleabilityProperties) → Row MalleabilityProperties
 wrap_v_row x = record { needs = []; gives = record { s = x.s; f = true; e = false } }
 
-unfoldable pub wrap_j_row : (x : Mall) → Row Mall
+unfoldable pub wrap_j_row : (x : MalleabilityProperties) → Row MalleabilityProperties
 wrap_j_row x = record { needs = []; gives = record { s = x.s; f = false; e = x.f } }
 
 -- the wrappers; `a`, `s` and `n` are as their child
-unfoldable pub wrap_row : Wrapper → (x : Mall) → Row Mall
+unfoldable pub wrap_row : Wrapper → (x : MalleabilityProperties) → Row MalleabilityProperties
 wrap_row wrapper.A x = record { needs = []; gives = x }
 wrap_row wrapper.S x = record { needs = []; gives = x }
 wrap_row wrapper.C x = wrap_c_row x
@@ -141,7 +141,7 @@ wrap_row wrapper.J x = wrap_j_row x
 wrap_row wrapper.N x = record { needs = []; gives = x }
 
 -- the rows of the table
-abbrev pub malleability : Rows Mall
+abbrev pub malleability : Rows MalleabilityProperties
 malleability = record {
   just_0 = just_0_row;
   just_1 = just_1_row;
@@ -158,5 +158,5 @@ malleability = record {
 }
 
 -- the properties, or the first requirement that is false
-abbrev pub mall : Tree → Result Mall RuleAt
-mall tree = typed_from malleability 0 tree
+abbrev pub malleability_of : Tree → Result MalleabilityProperties RuleAt
+malleability_of tree = typed_from malleability 0 tree

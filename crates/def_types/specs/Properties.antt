@@ -1,12 +1,12 @@
 -- The malleability properties of every fragment and wrapper, by the table of BIP 379.
 use Rattle.std.specs.Prelude.{◌≡◌, Bool, true, false, [], ◌∷◌, Ok}
 use Rattle.def_tree.specs.Tree.{Tree, just_0, just_1, pk_k, pk_h, older, after, and_or, thresh, multi}
-use Rattle.def_types.specs.Malleable.{mall}
+use Rattle.def_types.specs.Malleable.{malleability_of}
 use Rattle.def_types.specs.Samples.{KEY_A, KEY_B, hash_value, pk, sha256, a, s, d, v, j, n, and_v, and_b, or_b, or_c, or_d, or_i, trees}
 
 -- the tree has these of s, f and e
 abbrev pub HasProperties : Tree → (s f e : Bool) → Type 0
-HasProperties tree s f e = mall tree ≡ Ok (record { s = s; f = f; e = e })
+HasProperties tree s f e = malleability_of tree ≡ Ok (record { s = s; f = f; e = e })
 
 -- `0`, `1`, keys, locks and hashes
 abbrev pub LeafProperties : Type 0

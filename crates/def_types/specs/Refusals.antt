@@ -4,17 +4,17 @@ use Rattle.def_tree.specs.declared.Wrapper.TheVariants as wrapper
 use Rattle.def_tree.specs.Tree.{Tree, just_1, pk_k, older, after, and_or, thresh, multi, wrap}
 use Rattle.def_types.specs.declared.rule.Rule.{Rule}
 use Rattle.def_types.specs.declared.rule.Rule.TheVariants as rule
-use Rattle.def_types.specs.Corr.{corr}
-use Rattle.def_types.specs.Malleable.{mall}
+use Rattle.def_types.specs.Correctness.{correctness_of}
+use Rattle.def_types.specs.Malleable.{malleability_of}
 use Rattle.def_types.specs.Samples.{KEY_A, KEY_B, KEY_C, hash_value, pk, pkh, sha256, a, s, d, v, j, n, and_v, and_b, or_b, or_c, or_d, or_i, trees}
 
 -- the first requirement of correctness that is false is this one, at this node
 abbrev pub BreaksAt : Tree → (node : ℕ) → Rule → Type 0
-BreaksAt tree node rule = corr tree ≡ Err (record { node = node; rule = rule })
+BreaksAt tree node rule = correctness_of tree ≡ Err (record { node = node; rule = rule })
 
 -- the same of malleability
 abbrev pub IsMalleableAt : Tree → (node : ℕ) → Rule → Type 0
-IsMalleableAt tree node rule = mall tree ≡ Err (record { node = node; rule = rule })
+IsMalleableAt tree node rule = malleability_of tree ≡ Err (record { node = node; rule = rule })
 
 -- `older` and `after` take 1 to 2^31 - 1, `multi` 1 to n keys of at most 20, `thresh` 1 to n children
 abbrev pub NumberRanges : Type 0

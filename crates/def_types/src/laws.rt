@@ -1,10 +1,10 @@
 //! What the definitions imply.
 
 ghost use Rattle.def_types.specs.Laws.{
-  CorrIsTyped,
-  CorrIsFirst,
-  MallIsNonMalleable,
-  MallIsFirst,
+  CorrectnessIsTyped,
+  CorrectnessIsFirst,
+  MalleabilityIsTyped,
+  MalleabilityIsFirst,
   TypedMeans,
   NonMalleableMeans,
 };
@@ -13,10 +13,10 @@ ghost use Rattle.def_types.specs.Laws.{
 /// that is false. A refusal is the first requirement that is false: by the number of its node, and then in
 /// the order of the row.
 pub fn types()
-    ensures corr { CorrIsTyped }
-    ensures corr_first { CorrIsFirst }
-    ensures mall { MallIsNonMalleable }
-    ensures mall_first { MallIsFirst }
+    ensures correctness_of { CorrectnessIsTyped }
+    ensures correctness_first { CorrectnessIsFirst }
+    ensures malleability_of { MalleabilityIsTyped }
+    ensures malleability_first { MalleabilityIsFirst }
     ensures typed { TypedMeans }
     ensures non_malleable { NonMalleableMeans }
 {}

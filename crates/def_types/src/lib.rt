@@ -22,7 +22,7 @@ pub enum Base {
 
 /// A correctness type (BIP 379): a base type, and five properties.
 #[derive(Clone, Copy, Debug, PartialEq, Eq)]
-pub struct Ty {
+pub struct CorrectnessType {
     /// The base type.
     pub base: Base,
     /// Zero-arg: it takes no items.
@@ -39,7 +39,7 @@ pub struct Ty {
 
 /// The malleability properties (BIP 379).
 #[derive(Clone, Copy, Debug, PartialEq, Eq)]
-pub struct Mall {
+pub struct MalleabilityProperties {
     /// Signed: every satisfaction needs a signature.
     pub s: bool,
     /// Forced: every dissatisfaction needs a signature.

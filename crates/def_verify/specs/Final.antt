@@ -7,10 +7,10 @@ use Rattle.def_psbt.specs.Forms.{witness_of}
 use Rattle.def_spend.specs.Fields.{FINAL_SCRIPTSIG, field}
 use Rattle.def_spend.specs.Finalized.{final_witness}
 use Rattle.def_spend.specs.Input.{Spend}
-use Rattle.def_spend.specs.Kinds.{is_p2sh, p2sh_of, is_script_hash}
+use Rattle.def_spend.specs.Kinds.{is_p2sh, p2sh_of, is_script_hash, is_key_hash}
+use Rattle.def_spend.specs.Reading.{key_hash_script}
 use Rattle.def_verify.specs.declared.Flaw.{Flaw}
 use Rattle.def_verify.specs.declared.Flaw.TheVariants as flaw
-use Rattle.def_verify.specs.KeyHash.{is_key_hash, key_hash_script}
 
 -- ---- the fields
 

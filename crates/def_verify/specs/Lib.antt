@@ -1,7 +1,5 @@
 pub mod ConsensusHash
 pub mod Check
-pub mod Good
-pub mod KeyHash
 pub mod Final
 pub mod Verdict
 pub mod Laws

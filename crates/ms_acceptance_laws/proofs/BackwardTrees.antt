@@ -14,7 +14,7 @@ use Rattle.def_tree.specs.Range.{IsWritable, AreWritable, count}
 use Rattle.def_types.specs.declared.Base.{Base}
 use Rattle.def_types.specs.declared.Base.TheVariants.{B, V, K, W}
 use Rattle.def_types.specs.Typed.{type_of, IsTyped, AreTyped}
-use Rattle.def_types.proofs.Rows.{corr_rows}
+use Rattle.def_types.proofs.Rows.{correctness_rows}
 use Rattle.def_types.proofs.Facts.{typed-and_or, typed-and_v, typed-and_b, typed-or_b, typed-or_c, typed-or_d, typed-or_i, typed-multi, typed-thresh, typed-thresh_none, typed-wrap_a, typed-wrap_s, typed-wrap_c, typed-wrap_d, typed-wrap_v, typed-wrap_j, typed-wrap_n, OthersFit}
 use Rattle.def_satisfaction.specs.Setting.{Setting, any}
 use Rattle.def_satisfaction.specs.Satisfaction.{full}
@@ -196,7 +196,7 @@ as_unit : (given : Given) (t : Tree) (c : Base) → (type_of t).base ≡ c → (
 as_unit given t c e i h = subst (λ v. Inverts given.checker c v (den given t) (of_tree given t)) i (as_base given t c e h)
 
 mutual
-  unfolding corr_rows
+  unfolding correctness_rows
 
   pub inverts : (given : Given) (t : Tree) → IsWritable t → IsTyped t → Few t → Inverts given.checker (type_of t).base (type_of t).u (den given t) (of_tree given t)
   inverts given just_0 k typed few = just_0_back given

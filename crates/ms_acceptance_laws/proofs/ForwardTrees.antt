@@ -10,7 +10,7 @@ use Rattle.def_tree.specs.Range.{IsWritable, AreWritable, count}
 use Rattle.def_types.specs.declared.Base.{Base}
 use Rattle.def_types.specs.declared.Base.TheVariants.{B, V, K, W}
 use Rattle.def_types.specs.Typed.{type_of, IsTyped, AreTyped}
-use Rattle.def_types.proofs.Rows.{corr_rows}
+use Rattle.def_types.proofs.Rows.{correctness_rows}
 use Rattle.def_types.proofs.Facts.{typed-and_or, typed-and_v, typed-and_b, typed-or_b, typed-or_c, typed-or_d, typed-or_i, typed-multi, typed-thresh, typed-thresh_none, typed-wrap_a, typed-wrap_s, typed-wrap_c, typed-wrap_d, typed-wrap_v, typed-wrap_j, typed-wrap_n, OthersFit}
 use Rattle.def_satisfaction.specs.StackSet.{StackSet, Both}
 use Rattle.def_satisfaction.specs.Setting.{Setting}
@@ -78,14 +78,14 @@ module _ (s : Setting) where
   module _ {w above below : Stack} (e : w ≡ above ++ below) where
     and_or_first : {l m : Log} (x y z : Tree) (b : Bool) → IsTyped (and_or x y z) → Goes s x true above l → Goes s y b below m
         → Goes s (and_or x y z) b w (then_log l m)
-    unfolding corr_rows
+    unfolding correctness_rows
     and_or_first x y z b typed i j =
         let p = typed-and_or x y z typed in
         going (λ rest. and_or_true s.given.checker _ _ b _ _ (den s.given z) w above below _ _ _ p.7 e (unit B p.3 p.5 i (below ++ rest)) (left_weak z j rest))
 
     and_or_second : {l m : Log} (x y z : Tree) (b : Bool) → IsTyped (and_or x y z) → Goes s x false above l → Goes s z b below m
         → Goes s (and_or x y z) b w (then_log l m)
-    unfolding corr_rows
+    unfolding correctness_rows
     and_or_second x y z b typed i j =
         let p = typed-and_or x y z typed in
         going (λ rest. and_or_false s.given.checker _ _ b _ (den s.given y) _ w above below _ _ _ p.7 e (unit B p.3 p.5 i (below ++ rest))
@@ -93,39 +93,39 @@ module _ (s : Setting) where
 
     and_v_goes : {l m : Log} (x y : Tree) (b : Bool) → IsTyped (two kind.AndV x y) → Goes s x true above l → Goes s y b below m
         → Goes s (two kind.AndV x y) b w (then_log l m)
-    unfolding corr_rows
+    unfolding correctness_rows
     and_v_goes x y b typed i j =
         let p = typed-and_v x y typed in
         going (λ rest. and_v_ends s.given.checker _ _ b (den s.given x) (den s.given y) w above below _ _ _ p.3 e (based V p.2 i (below ++ rest)) (j.ends rest))
 
     and_b_goes : {l m : Log} (x y : Tree) (a b : Bool) → IsTyped (two kind.AndB x y) → Goes s x a above l → Goes s y b below m
         → Goes s (two kind.AndB x y) (a && b) w (then_log l m)
-    unfolding corr_rows
+    unfolding correctness_rows
     and_b_goes x y a b typed i j =
         let p = typed-and_b x y typed in
         going (λ rest. and_b_ends _ _ true a b (den s.given x) (den s.given y) w above below _ _ _ e (based B p.2 i (below ++ rest)) (based W p.3 j rest))
 
     or_b_goes : {l m : Log} (x z : Tree) (a b : Bool) → IsTyped (two kind.OrB x z) → Goes s x a above l → Goes s z b below m
         → Goes s (two kind.OrB x z) (a || b) w (then_log l m)
-    unfolding corr_rows
+    unfolding correctness_rows
     or_b_goes x z a b typed i j =
         let p = typed-or_b x z typed in
         going (λ rest. or_b_ends _ _ true a b (den s.given x) (den s.given z) w above below _ _ _ e (based B p.2 i (below ++ rest)) (based W p.4 j rest))
 
     or_d_goes : {l m : Log} (x z : Tree) (b : Bool) → IsTyped (two kind.OrD x z) → Goes s x false above l → Goes s z b below m
         → Goes s (two kind.OrD x z) b w (then_log l m)
-    unfolding corr_rows
+    unfolding correctness_rows
     or_d_goes x z b typed i j =
         let p = typed-or_d x z typed in
         going (λ rest. or_d_false _ b (den s.given x) (den s.given z) w above below _ _ _ e (unit B p.2 p.4 i (below ++ rest)) (based B p.5 j rest))
 
     or_i_first : {m : Log} (x z : Tree) (b : Bool) → IsTyped (two kind.OrI x z) → above ≡ ONE ∷ [] → Goes s x b below m → Goes s (two kind.OrI x z) b w m
-    unfolding corr_rows
+    unfolding correctness_rows
     or_i_first x z b typed is i =
         going (λ rest. or_i_true s.given.checker _ _ b _ (den s.given z) w above below _ _ (typed-or_i x z typed).3 is e (left_weak z i rest))
 
     or_i_second : {m : Log} (x z : Tree) (b : Bool) → IsTyped (two kind.OrI x z) → above ≡ EMPTY ∷ [] → Goes s z b below m → Goes s (two kind.OrI x z) b w m
-    unfolding corr_rows
+    unfolding correctness_rows
     or_i_second x z b typed is j =
         let p = typed-or_i x z typed in
         going (λ rest. or_i_false s.given.checker _ _ b (den s.given x) _ w above below _ _ p.3 is e (right_weak x p.2 j rest))
@@ -135,7 +135,7 @@ module _ (s : Setting) where
       → (n ≡ k → ⊥)
       → ((rest : Stack) → den_sum s.given (more x xs) (w ++ rest) ≡ Ok (left (natural_bytes n ∷ rest) (parts_log s (more x xs) n w r)))
       → Goes s (thresh k (more x xs)) false w (parts_log s (more x xs) n w r)
-  unfolding corr_rows
+  unfolding correctness_rows
   unmet k x xs typed few n w r other sum =
       let low = few.0 in
       let most = (typed-thresh k x xs typed).3 in
@@ -143,7 +143,7 @@ module _ (s : Setting) where
       going (λ rest. counted_ends n k false (den_sum s.given (more x xs)) w rest _ (is_no_count n k (omega arith) (omega arith) other) (sum rest))
 
   mutual
-    unfolding corr_rows
+    unfolding correctness_rows
 
     pub sat_ends : (t : Tree) → IsWritable t → IsTyped t → Few t → (w : Stack) → Short w → (r : (row s t).sat w) → Goes s t true w (sat_log s t w r)
     sat_ends just_0 k typed few w short r = absurd r

@@ -86,8 +86,8 @@ module _ (given : Given) where
     does (pk_k key) = push_does given key
     does (pk_h key) =
         then_does dup_does (then_does (hash_does hash_kind.Hash160) (then_does (push_does given (hash160 key)) (equal_verify_does given)))
-    does (older n) = then_does (push_does given (natural_bytes n)) (code_does given op.Csv (lock (λ n. older_holds n given.locks)) refl (λ s. refl))
-    does (after n) = then_does (push_does given (natural_bytes n)) (code_does given op.Cltv (lock (λ n. after_holds n given.locks)) refl (λ s. refl))
+    does (older n) = then_does (push_does given (natural_bytes n)) (code_does given op.CheckSequenceVerify (lock (λ n. older_holds n given.locks)) refl (λ s. refl))
+    does (after n) = then_does (push_does given (natural_bytes n)) (code_does given op.CheckLockTimeVerify (lock (λ n. after_holds n given.locks)) refl (λ s. refl))
     does (hash_of kind value) =
         then_does size_does (then_does (push_does given (natural_bytes 32)) (then_does (equal_verify_does given)
         (then_does (hash_does kind) (then_does (push_does given value) (code_does given op.Equal equal refl (λ s. refl))))))

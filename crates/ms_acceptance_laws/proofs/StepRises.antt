@@ -101,8 +101,8 @@ act_climbs given op.CheckSig s t h = check_sig_climbs given.checker s t h
 act_climbs given op.CheckSigVerify s t h = verified_climbs (on_checks (check_sig given.checker) s) s t (check_sig_climbs given.checker s) h
 act_climbs given op.CheckMultiSig s t h = check_multi_sig_climbs given.checker s t h
 act_climbs given op.CheckMultiSigVerify s t h = verified_climbs (affect (checks_multi_sig given.checker) s) s t (check_multi_sig_climbs given.checker s) h
-act_climbs given op.Cltv s t h = main_climbs (lock (λ n. after_holds n given.locks)) 0 (lock_grows (λ n. after_holds n given.locks)) s t h
-act_climbs given op.Csv s t h = main_climbs (lock (λ n. older_holds n given.locks)) 0 (lock_grows (λ n. older_holds n given.locks)) s t h
+act_climbs given op.CheckLockTimeVerify s t h = main_climbs (lock (λ n. after_holds n given.locks)) 0 (lock_grows (λ n. after_holds n given.locks)) s t h
+act_climbs given op.CheckSequenceVerify s t h = main_climbs (lock (λ n. older_holds n given.locks)) 0 (lock_grows (λ n. older_holds n given.locks)) s t h
 
 -- an opcode is carried out or skipped; it is counted at any rate
 pub code_climbs : (given : Given) (op : Op) (s t : State) → free_step given (code op) s ≡ Ok t → Climbs (one_more s) t (rise_of op)

@@ -15,7 +15,7 @@ use Rattle.def_tree.specs.Range.{IsWritable, AreWritable}
 use Rattle.def_types.specs.declared.Base.{Base}
 use Rattle.def_types.specs.declared.Base.TheVariants.{B, V, K, W}
 use Rattle.def_types.specs.Typed.{type_of, IsTyped, AreTyped}
-use Rattle.def_types.proofs.Rows.{corr_rows}
+use Rattle.def_types.proofs.Rows.{correctness_rows}
 use Rattle.def_types.proofs.Facts.{typed-and_or, typed-and_v, typed-and_b, typed-or_b, typed-or_c, typed-or_d, typed-or_i, typed-thresh, typed-thresh_none, typed-wrap_a, typed-wrap_s, typed-wrap_c, typed-wrap_d, typed-wrap_v, typed-wrap_j, typed-wrap_n, OthersFit}
 use Rattle.def_emit.specs.Emit.{push_number, emit, emit_sum, emit_added}
 use Rattle.def_satisfaction.specs.StackSet.{StackSet}
@@ -115,37 +115,37 @@ module _ (s : Setting) (no_more : IsTrue s.all_rows → ⊥) where
   module _ {w above below : Stack} (e : w ≡ above ++ below) where
     and_or_second : {v u : Way} (x y z : Tree) (b : Bool) → IsTyped (and_or x y z) → Own false x v above → Own b z u below
         → Walk (and_or x y z) (then (followed v (down 1 ∷ [])) u) w
-    unfolding corr_rows
+    unfolding correctness_rows
     and_or_second x y z b typed i j =
         let p = typed-and_or x y z typed in
         path_script (emit (and_or x y z)) (and_or_script x y z) (and_or_false_path w p.7 e (unit x B p.3 p.5 i) (based z _ (sym p.6) j) (still s.given y))
 
     and_b_walk : {v u : Way} (x y : Tree) (a : Bool) → IsTyped (two kind.AndB x y) → Own a x v above → Walk y u below
         → Walk (two kind.AndB x y) (followed (then v u) (down 1 ∷ [])) w
-    unfolding corr_rows
+    unfolding correctness_rows
     and_b_walk x y a typed i j = let p = typed-and_b x y typed in two_path w (code op.BoolAnd ∷ []) e refl (based x B p.2 i) (path_base W p.3 j)
 
     or_b_walk : {v u : Way} (x z : Tree) (a : Bool) → IsTyped (two kind.OrB x z) → Own a x v above → Walk z u below
         → Walk (two kind.OrB x z) (followed (then v u) (down 1 ∷ [])) w
-    unfolding corr_rows
+    unfolding correctness_rows
     or_b_walk x z a typed i j = let p = typed-or_b x z typed in two_path w (code op.BoolOr ∷ []) e refl (based x B p.2 i) (path_base W p.4 j)
 
     or_d_walk : {v u : Way} (x z : Tree) → IsTyped (two kind.OrD x z) → Own false x v above → Walk z u below
         → Walk (two kind.OrD x z) (then (followed v (up 0 ∷ down 1 ∷ [])) u) w
-    unfolding corr_rows
+    unfolding correctness_rows
     or_d_walk x z typed i j =
         let p = typed-or_d x z typed in
         path_script (emit (two kind.OrD x z)) (or_d_script x z) (or_d_false_path w e (unit x B p.2 p.4 i) (path_base B p.5 j))
 
     or_i_first : {v : Way} (x z : Tree) (b : Bool) → IsTyped (two kind.OrI x z) → above ≡ ONE ∷ [] → Own b x v below
         → Walk (two kind.OrI x z) (then (is 1 (down 1 ∷ [])) v) w
-    unfolding corr_rows
+    unfolding correctness_rows
     or_i_first x z b typed one i =
         path_script (emit (two kind.OrI x z)) (or_i_script x z) (or_i_true_path w above (typed-or_i x z typed).3 e one i (still s.given z))
 
     or_i_second : {v : Way} (x z : Tree) → IsTyped (two kind.OrI x z) → above ≡ EMPTY ∷ [] → Walk z v below
         → Walk (two kind.OrI x z) (then (is 1 (down 1 ∷ [])) v) w
-    unfolding corr_rows
+    unfolding correctness_rows
     or_i_second x z typed empty j =
         let p = typed-or_i x z typed in
         path_script (emit (two kind.OrI x z)) (or_i_script x z)
@@ -166,7 +166,7 @@ module _ (s : Setting) (no_more : IsTrue s.all_rows → ⊥) where
       )
 
   mutual
-    unfolding corr_rows
+    unfolding correctness_rows
 
     pub sat_path : (t : Tree) → IsWritable t → IsTyped t → Few t → (w : Stack) → Short w → (r : (row s t).sat w)
         → Path s.given (type_of t).base (emit t) (sat_way s t w r) w
@@ -175,8 +175,8 @@ module _ (s : Setting) (no_more : IsTrue s.all_rows → ⊥) where
     sat_path (pk_k key) k typed few w short r = pushes_path s.given K (key ∷ []) [] 1 (up 1 ∷ []) w k_not_w (ap length r.2) refl refl
     sat_path (pk_h key) k typed few w short r =
         pk_h_path s.given (hash160 key) r.0 w r.4.1 r.4.0 r.4.4 r.4.3 (ap length r.4.2.2)
-    sat_path (older n) k typed few w short r = pushes_path s.given B (natural_bytes n ∷ []) (code op.Csv ∷ []) 0 (up 1 ∷ up 0 ∷ []) w b_not_w (ap length r.1) refl refl
-    sat_path (after n) k typed few w short r = pushes_path s.given B (natural_bytes n ∷ []) (code op.Cltv ∷ []) 0 (up 1 ∷ up 0 ∷ []) w b_not_w (ap length r.1) refl refl
+    sat_path (older n) k typed few w short r = pushes_path s.given B (natural_bytes n ∷ []) (code op.CheckSequenceVerify ∷ []) 0 (up 1 ∷ up 0 ∷ []) w b_not_w (ap length r.1) refl refl
+    sat_path (after n) k typed few w short r = pushes_path s.given B (natural_bytes n ∷ []) (code op.CheckLockTimeVerify ∷ []) 0 (up 1 ∷ up 0 ∷ []) w b_not_w (ap length r.1) refl refl
     sat_path (hash kind value) k typed few w short r = hash_path s.given kind value r.0 w r.1.0.0 r.2
     sat_path (and_or x y z) k typed few w short (inl r) =
         let p = typed-and_or x y z typed in

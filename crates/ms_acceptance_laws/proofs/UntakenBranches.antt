@@ -133,8 +133,8 @@ module _ (given : Given) where
     still just_1 = still_push _ [] still_nothing
     still (pk_k key) = still_push key [] still_nothing
     still (pk_h key) = still_code op.Dup _ refl (still_code op.Hash160 _ refl (still_push _ _ (still_code op.EqualVerify _ refl still_nothing)))
-    still (older n) = still_push _ _ (still_code op.Csv _ refl still_nothing)
-    still (after n) = still_push _ _ (still_code op.Cltv _ refl still_nothing)
+    still (older n) = still_push _ _ (still_code op.CheckSequenceVerify _ refl still_nothing)
+    still (after n) = still_push _ _ (still_code op.CheckLockTimeVerify _ refl still_nothing)
     still (hash kind value) =
         still_code op.Size _ refl (still_push _ _ (still_code op.EqualVerify _ refl
         (still_code (hash_opcode kind) _ (hash_is_no_branch kind) (still_push value _ (still_code op.Equal _ refl still_nothing)))))

@@ -2,7 +2,7 @@
 use Rattle.std.specs.Prelude.{⊤}
 use Rattle.std.specs.Fmt.{digits}
 use Rattle.def_hash.specs.Hash.{hash256}
-use Rattle.def_types.proofs.Rows.{corr_rows, mall_rows}
+use Rattle.def_types.proofs.Rows.{correctness_rows, malleability_rows}
 use Rattle.def_files.proofs.OnLiterals.{files_on_literals}
 use Rattle.def_satisfaction.proofs.Computing.{computing}
 use Rattle.def_limits.proofs.Greatest.{limits_exist}
@@ -30,5 +30,5 @@ use Rattle.ms_answer_laws.proofs.Forms.{children_of}
 
 unfoldable pub answers_on_literals : ⊤
 unfolding script_report asm_report check_report satisfy_report run_report policy_report plan_report audit_report trace_report traces plan_file_of decode_report decided natural_of fits
-    the_limits limits_exist the_height height_exists least_keys gen_report gen_reply computing hash256 corr_rows mall_rows files_on_literals children_of digits
+    the_limits limits_exist the_height height_exists least_keys gen_report gen_reply computing hash256 correctness_rows malleability_rows files_on_literals children_of digits
 answers_on_literals = tt

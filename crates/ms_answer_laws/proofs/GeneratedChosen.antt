@@ -10,7 +10,8 @@ use Rattle.def_machine.specs.Stacks.{Stack}
 use Rattle.def_tree.specs.Tree.{Trees, thresh}
 use Rattle.def_tree.specs.Range.{count}
 use Rattle.def_assets.specs.Assets.{Assets}
-use Rattle.def_choice.specs.Sets.{sets, positions}
+use Rattle.def_choice.specs.Sets.{sets}
+use Rattle.def_choice.specs.Positions.{positions}
 use Rattle.def_choice.specs.Least.{both, lighter, least}
 use Rattle.def_choice.specs.Cheapest.{Child, stack_of, cheapest_of, cheapest_children}
 use Rattle.def_choice.specs.Strict.{free_children, has_all, strict_of, strict_children}

@@ -4,11 +4,11 @@ use Rattle.std.specs.Prelude.{⊤}
 use Rattle.std.proofs.lemmas.Bool.{leb-true, le-ltb, and_parts}
 use Rattle.def_tree.specs.Tree.{Tree, Trees, none, more}
 use Rattle.def_tree.specs.Range.{count}
-use Rattle.def_types.specs.declared.Ty.{Ty}
-use Rattle.def_types.specs.declared.Mall.{Mall}
+use Rattle.def_types.specs.declared.CorrectnessType.{CorrectnessType}
+use Rattle.def_types.specs.declared.MalleabilityProperties.{MalleabilityProperties}
 use Rattle.def_types.specs.declared.rule.RuleAt.{RuleAt}
-use Rattle.def_types.specs.Corr.{is_b, corr}
-use Rattle.def_types.specs.Malleable.{mall}
+use Rattle.def_types.specs.Correctness.{is_b, correctness_of}
+use Rattle.def_types.specs.Malleable.{malleability_of}
 use Rattle.def_emit.specs.Emit.{emit, script_of}
 use Rattle.def_limits.specs.Formal.{Takes}
 use Rattle.def_script.specs.Instruction.{opcode_count}
@@ -67,17 +67,17 @@ counted_children (suc n) i = let rest = counted_children n (i + 1) in omega (ari
 
 -- ---- what is tested of a tree, its satisfactions aside
 
-abbrev type_fits : Result Ty RuleAt → Bool
+abbrev type_fits : Result CorrectnessType RuleAt → Bool
 type_fits (Ok ty) = is_b ty.base
 type_fits (Err at) = false
 
-abbrev mall_fits : Result Mall RuleAt → Bool
-mall_fits (Ok m) = m.s
-mall_fits (Err at) = false
+abbrev malleability_fits : Result MalleabilityProperties RuleAt → Bool
+malleability_fits (Ok m) = m.s
+malleability_fits (Err at) = false
 
 abbrev fits : Tree → Bool
 fits tree =
-    type_fits (corr tree) && (mall_fits (mall tree) && (is_none (mix tree) && (is_none (repeated_key tree)
+    type_fits (correctness_of tree) && (malleability_fits (malleability_of tree) && (is_none (mix tree) && (is_none (repeated_key tree)
     && (nat_le (length (script_of tree)) 3600 && nat_le (opcode_count (emit tree)) 201))))
 
 abbrev IsFit : ℕ → Type 0
@@ -97,10 +97,10 @@ fit_30 = ((((((((((fit_20, refl), refl), refl), refl), refl), refl), refl), refl
 
 -- ---- no reason stands against it
 
-no_broken_rule : (r : Result Ty RuleAt) → type_fits r ≡ true → (broken_rule r ≡ None) × (wrong_top r ≡ None)
+no_broken_rule : (r : Result CorrectnessType RuleAt) → type_fits r ≡ true → (broken_rule r ≡ None) × (wrong_top r ≡ None)
 no_broken_rule r e = grind arith
 
-not_malleable : (r : Result Mall RuleAt) → mall_fits r ≡ true → (malleable r ≡ None) × (no_signature r ≡ None)
+not_malleable : (r : Result MalleabilityProperties RuleAt) → malleability_fits r ≡ true → (malleable r ≡ None) × (no_signature r ≡ None)
 not_malleable r e = grind arith
 
 few_items : (m : ℕ) (o : Option Takes) → TakesSome m o → m ≤ 100 → (number_of (λ t. t.items) o ≤ 100)
@@ -109,13 +109,13 @@ few_items m o h few = grind arith
 
 sane_tree : (tree : Tree) (m : ℕ) → fits tree ≡ true → TakesSome m (most_sat tree) → m ≤ 100 → IsSane tree
 sane_tree tree m e takes few =
-    let p1 = and_parts (type_fits (corr tree)) _ e in
-    let p2 = and_parts (mall_fits (mall tree)) _ p1.1 in
+    let p1 = and_parts (type_fits (correctness_of tree)) _ e in
+    let p2 = and_parts (malleability_fits (malleability_of tree)) _ p1.1 in
     let p3 = and_parts (is_none (mix tree)) _ p2.1 in
     let p4 = and_parts (is_none (repeated_key tree)) _ p3.1 in
     let p5 = and_parts (nat_le (length (script_of tree)) 3600) _ p4.1 in
-    let typed = no_broken_rule (corr tree) p1.0 in
-    let signed = not_malleable (mall tree) p2.0 in
+    let typed = no_broken_rule (correctness_of tree) p1.0 in
+    let signed = not_malleable (malleability_of tree) p2.0 in
     let items = few_items m (most_sat tree) takes few in
     let size : (limits_of tree).size ≤ 3600 = leb-true (length (script_of tree)) 3600 p5.0 in
     let codes : opcode_count (emit tree) ≤ 201 = leb-true (opcode_count (emit tree)) 201 p5.1 in

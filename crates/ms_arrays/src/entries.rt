@@ -10,7 +10,7 @@ ghost use Rattle.ms_arrays.specs.Pieces.{KEY_SIZE as THE_KEY_SIZE, entries_at};
 ghost use Rattle.ms_arrays.specs.ArrayPlan.{entry_refusals};
 
 use crate::cutting::KEY_SIZE;
-use ms_plan_file::{KeyLen, KeyLens, PlanFault};
+use ms_plan_file::{KeyLength, KeyLengths, PlanFault};
 use ms_script::{Blob, is_key, is_signature_size};
 use ms_tree::Key;
 use std::alloc::{AllocError, Global};
@@ -127,7 +127,7 @@ fn holds_key_of(entries: &[Entry], wanted: &Entry) -> bool
 }
 
 /// The table of entries that aren't refused. Refuses for want of memory alone.
-pub fn table_of(alloc: Global, entries: &[Entry]) -> Result<KeyLens, AllocError>
+pub fn table_of(alloc: Global, entries: &[Entry]) -> Result<KeyLengths, AllocError>
     ensures table { IfOk result (λ table. table ≡ entries.now) }
     ensures keys { IfOk result (λ table. All (λ entry. IsKey entry.0) table) }
 {
@@ -138,11 +138,11 @@ pub fn table_of(alloc: Global, entries: &[Entry]) -> Result<KeyLens, AllocError>
         };
         table.push(known)?;
     }
-    Ok(KeyLens::from_vec(table))
+    Ok(KeyLengths::from_vec(table))
 }
 
 /// An entry, where it has a key and a length of less than 256.
-fn key_length(entry: &Entry) -> Option<KeyLen>
+fn key_length(entry: &Entry) -> Option<KeyLength>
     ensures entry { IfSome result (λ known. known ≡ entry.now) }
     ensures key { IfSome result (λ known. IsKey known.0) }
 {
@@ -150,5 +150,5 @@ fn key_length(entry: &Entry) -> Option<KeyLen>
     let length = u8::try_from(entry.length).ok()?;
     // Its clause tells what a key always is.
     let _bytes = key.as_bytes();
-    Some(KeyLen { key, length })
+    Some(KeyLength { key, length })
 }

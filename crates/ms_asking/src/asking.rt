@@ -2,7 +2,7 @@
 
 ghost use Rattle.std.specs.Prelude.{◌≡◌, not, is_some, IfOk};
 ghost use Rattle.def_assets.specs.Assets.{sig_of};
-ghost use Rattle.def_tree.specs.Range.{IsInRange};
+ghost use Rattle.def_tree.specs.InRange.{IsInRange};
 ghost use Rattle.def_sane.specs.Unfit.{IsSane};
 ghost use Rattle.def_spend.specs.Asking.{plan_with as the_plan_with, unsigned_keys as the_unsigned_keys};
 ghost use Rattle.ms_asking.specs.Asked.{asked_plan as the_asked_plan};

@@ -7,7 +7,7 @@ ghost use Rattle.def_machine.specs.Run.{run as the_run};
 ghost use Rattle.def_machine.specs.Stacks.{Pairs};
 ghost use Rattle.def_sane.specs.declared.Rules.TheVariants.{Consensus};
 ghost use Rattle.def_sane.specs.Unfit.{IsValidUnder};
-ghost use Rattle.def_tree.specs.Range.{IsInRange};
+ghost use Rattle.def_tree.specs.InRange.{IsInRange};
 ghost use Rattle.ms_audit.specs.Answering.{Audits};
 ghost use Rattle.ms_audit_laws.specs.Laws.{IsCanonicalWhereSat};
 ghost use Rattle.ms_interp.specs.Answering.{given_by};

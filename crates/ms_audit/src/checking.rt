@@ -3,7 +3,7 @@ ghost use Rattle.std.specs.Prelude.{◌↔◌, ◌≤◌, IsTrue, true, length, 
 ghost use Rattle.def_audit.specs.Derives.{Derives};
 ghost use Rattle.def_sane.specs.declared.Rules.TheVariants.{Consensus};
 ghost use Rattle.def_sane.specs.Unfit.{IsValidUnder};
-ghost use Rattle.def_tree.specs.Range.{IsInRange};
+ghost use Rattle.def_tree.specs.InRange.{IsInRange};
 ghost use Rattle.ms_audit.specs.Answering.{IsAcceptedUnlessLimited};
 ghost use Rattle.ms_interp.specs.Answering.{given_by};
 ghost use Rattle.ms_tree.specs.Shape.{shape};

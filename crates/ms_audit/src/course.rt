@@ -1,6 +1,6 @@
 //! How far a walk over a tree and a stack has come.
 ghost use Rattle.std.specs.Prelude.{◌≡◌, ◌+◌, ◌<◌, ◌≤◌};
-ghost use Rattle.def_tree.specs.Range.{MOST_MEASURE, IsInRange};
+ghost use Rattle.def_tree.specs.InRange.{MOST_MEASURE, IsInRange};
 ghost use Rattle.def_tree.specs.Size.{nodes};
 ghost use Rattle.ms_audit.specs.Scaffolding.Walking.{verdict_of, Ends, Passes};
 ghost use Rattle.ms_audit.specs.declared.course.WalkStop.TheVariants.{Memory};

@@ -15,7 +15,7 @@ ghost use Rattle.ms_tree.specs.Shape.{leaf_shape};
 
 use crate::course::WalkStop;
 use crate::row::{Row, forced, of_hash, of_key, of_multi, of_sig};
-use ms_hash::{HashVal, hash_of, hash160};
+use ms_hash::{HashValue, hash_of, hash160};
 use ms_oracle::{Locks, SignatureChecker};
 use ms_script::{Stack, is_key};
 use ms_tree::{Key, Leaf, Wrapper};
@@ -131,7 +131,7 @@ impl<C: SignatureChecker> Spend<'_, C> {
         ))
     }
 
-    fn hash(&self, value: &HashVal, left: &mut usize) -> Result<Option<Row>, WalkStop>
+    fn hash(&self, value: &HashValue, left: &mut usize) -> Result<Option<Row>, WalkStop>
         requires left { left.old ≤ length self.now.stack.now }
         ensures row { TakesAs (given_by (C.checker self.now.sigs.now) self.now.locks.now) self.now.stack.now (tree.hash (kind_of value.now) (bytes_of value.now)) left.old left.new result }
         ensures left { left.new ≤ length self.now.stack.now }

@@ -1,7 +1,7 @@
 //! The walk over a tree and a stack. What a fragment does with the top decides by which row it takes part, so nothing
 //! is searched for.
 ghost use Rattle.std.specs.Prelude.{◌≡◌, ◌≢◌, ◌+◌, ◌&&◌, ◌≤◌, nat_eq, Some, None, length, All, IfOk, if◌then◌else◌};
-ghost use Rattle.def_tree.specs.Range.{MOST_MEASURE, IsInRange};
+ghost use Rattle.def_tree.specs.InRange.{MOST_MEASURE, IsInRange};
 ghost use Rattle.def_tree.specs.Size.{nodes, nodes_of};
 ghost use Rattle.def_tree.specs.Tree as tree;
 ghost use Rattle.def_tree.specs.declared.Two.TheVariants.{OrI};

@@ -3,9 +3,9 @@ use Rattle.std.specs.Prelude.{ℕ}
 use Rattle.def_tree.specs.Tree.{Tree}
 use Rattle.def_types.specs.declared.Base.{Base}
 use Rattle.def_types.specs.declared.Base.TheVariants as base
-use Rattle.def_types.specs.declared.Ty.{Ty}
-use Rattle.def_types.specs.declared.Mall.{Mall}
-use Rattle.def_types.specs.Typed.{type_of, mall_of}
+use Rattle.def_types.specs.declared.CorrectnessType.{CorrectnessType}
+use Rattle.def_types.specs.declared.MalleabilityProperties.{MalleabilityProperties}
+use Rattle.def_types.specs.Typed.{type_of, properties_of}
 use Rattle.def_limits.specs.declared.Limits.{Limits}
 use Rattle.def_sane.specs.TheLimits.{the_limits}
 use Rattle.def_answer.specs.TheHeight.{the_height}
@@ -18,8 +18,8 @@ code_of_base base.V = 1
 code_of_base base.K = 2
 code_of_base base.W = 3
 
-abbrev pub facts_by : Ty → Mall → Limits → (height : ℕ) → Facts
-facts_by ty mall limits height =
+abbrev pub facts_by : CorrectnessType → MalleabilityProperties → Limits → (height : ℕ) → Facts
+facts_by ty malleability_of limits height =
     record {
       size = limits.size;
       ops = limits.ops;
@@ -32,10 +32,10 @@ facts_by ty mall limits height =
       n = ty.n;
       d = ty.d;
       u = ty.u;
-      s = mall.s;
-      f = mall.f;
-      e = mall.e;
+      s = malleability_of.s;
+      f = malleability_of.f;
+      e = malleability_of.e;
     }
 
 abbrev pub facts_of : Tree → Facts
-facts_of tree = facts_by (type_of tree) (mall_of tree) (the_limits tree) (the_height tree)
+facts_of tree = facts_by (type_of tree) (properties_of tree) (the_limits tree) (the_height tree)

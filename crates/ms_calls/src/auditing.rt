@@ -1,7 +1,7 @@
 //! The audit of a stack for a text, by what lies in arrays, without a run file.
 ghost use Rattle.std.specs.Prelude.{◌≡◌, ◌⊎◌, ◌↔◌, ◌<◌, ◌≤◌, All, length, map, IsUtf8, IfOk};
 ghost use Rattle.def_answer.specs.Reading.{read as the_read};
-ghost use Rattle.def_tree.specs.Range.{IsInRange};
+ghost use Rattle.def_tree.specs.InRange.{IsInRange};
 ghost use Rattle.def_tree.specs.Size.{nodes};
 ghost use Rattle.def_sane.specs.Unfit.{IsValid};
 ghost use Rattle.def_audit.specs.declared.Step.{Step as TheStep};

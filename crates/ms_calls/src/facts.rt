@@ -42,9 +42,13 @@ pub struct Facts {
 impl Facts {
     /// Of what is known of a sane tree, and its height. Takes no memory.
     pub fn new(sane: &SaneTree<'_>, height: u64) -> Facts
-        ensures { result ≡ facts_by sane.now.valid.ty sane.now.mall sane.now.valid.limits height }
+        ensures { result ≡ facts_by sane.now.valid.ty sane.now.malleability_of sane.now.valid.limits height }
     {
-        let (ty, mall, limits) = (sane.valid.ty, sane.mall, sane.valid.limits);
+        let (ty, malleability_of, limits) = (
+            sane.valid.ty,
+            sane.malleability_of,
+            sane.valid.limits,
+        );
         Facts {
             size: limits.size,
             ops: limits.ops,
@@ -57,9 +61,9 @@ impl Facts {
             n: ty.n,
             d: ty.d,
             u: ty.u,
-            s: mall.s,
-            f: mall.f,
-            e: mall.e,
+            s: malleability_of.s,
+            f: malleability_of.f,
+            e: malleability_of.e,
         }
     }
 }

@@ -1,6 +1,6 @@
 //! The satisfaction of a text by what a wallet holds in arrays, without an asset file.
 ghost use Rattle.std.specs.Prelude.{◌≡◌, ◌⊎◌, ◌↔◌, IsUtf8};
-ghost use Rattle.def_tree.specs.Range.{IsInRange};
+ghost use Rattle.def_tree.specs.InRange.{IsInRange};
 ghost use Rattle.def_answer.specs.Reading.{read as the_read};
 ghost use Rattle.ms_tree.specs.Shape.{shape};
 ghost use Rattle.ms_replies.specs.ChoiceTrees.{tree_in, chosen_in};

@@ -1,6 +1,6 @@
 //! Which keys to ask for a signature, by what a wallet knows in arrays, without a plan file.
 ghost use Rattle.std.specs.Prelude.{◌≡◌, ◌⊎◌, ◌↔◌, ℕ, List, [], flat_map, IsUtf8, IfOk};
-ghost use Rattle.def_tree.specs.Range.{IsInRange};
+ghost use Rattle.def_tree.specs.InRange.{IsInRange};
 ghost use Rattle.def_answer.specs.Reading.{read as the_read};
 ghost use Rattle.def_sane.specs.Unfit.{IsSane};
 ghost use Rattle.def_plan.specs.Lengths.{AreLengths};

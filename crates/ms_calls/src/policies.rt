@@ -1,6 +1,6 @@
 //! What a sane text demands, as bytes and a number.
 ghost use Rattle.std.specs.Prelude.{◌≡◌, ◌⊎◌, ◌↔◌, IsUtf8, IfOk};
-ghost use Rattle.def_tree.specs.Range.{IsInRange};
+ghost use Rattle.def_tree.specs.InRange.{IsInRange};
 ghost use Rattle.def_sane.specs.Unfit.{IsSane, first_unfit};
 ghost use Rattle.ms_tree.specs.Shape.{shape};
 ghost use Rattle.ms_calls.specs.Demanded.{demanded as the_demanded, number_of_keys as the_number_of_keys, policy_given, printed_given, keys_given};

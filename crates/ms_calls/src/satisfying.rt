@@ -1,7 +1,7 @@
 //! Satisfactions of a text by an asset file: the least weight of one, and the items of the witness of the one that is chosen.
 ghost use Rattle.std.specs.Prelude.{◌≡◌, ◌⊎◌, ◌↔◌, IsUtf8, MatchResult, IfOk, option_map};
 ghost use Rattle.def_answer.specs.Reading.{read as the_read};
-ghost use Rattle.def_tree.specs.Range.{IsInRange};
+ghost use Rattle.def_tree.specs.InRange.{IsInRange};
 ghost use Rattle.ms_tree.specs.Shape.{shape};
 ghost use Rattle.ms_replies.specs.ChoiceTrees.{tree_in, chosen_in};
 ghost use Rattle.ms_calls.specs.TextReply.{HoldsOfReply, told, rules_for as the_rules_for, choice_for as the_choice_for, file_given, where_one};

@@ -1,6 +1,6 @@
 //! The Script of a text, and what is known of it.
 ghost use Rattle.std.specs.Prelude.{◌≡◌, ◌⊎◌, ◌↔◌, Option, None, IsUtf8, IfOk, IfErr, MatchResult, Ok, Err};
-ghost use Rattle.def_tree.specs.Range.{IsInRange};
+ghost use Rattle.def_tree.specs.InRange.{IsInRange};
 ghost use Rattle.def_tree.specs.Tree.{Tree};
 ghost use Rattle.def_text.specs.Refusal.{TextReads};
 ghost use Rattle.def_emit.specs.Emit.{script_of};

@@ -10,7 +10,8 @@ use Rattle.def_hash.specs.declared.HashKind.{HashKind}
 use Rattle.def_hash.specs.Hash.{digest_of}
 use Rattle.std.specs.Str.{bytes_eq}
 use Rattle.def_tree.specs.Tree.{Key, Trees, none, more}
-use Rattle.def_tree.specs.Range.{MOST_MEASURE, count}
+use Rattle.def_tree.specs.Range.{count}
+use Rattle.def_tree.specs.InRange.{MOST_MEASURE}
 use Rattle.def_assets.proofs.Shortest.{found_is_held}
 use Rattle.def_assets.specs.Assets.{Assets, AreAssets, IsSignature, IsPreimage, sig_of, known}
 use Rattle.def_script.specs.Witness.{weight}

@@ -6,7 +6,8 @@ use borrow.Rule.Slice.PartMut.{put_mid}
 use Rattle.def_machine.specs.Stacks.{Stack}
 use Rattle.def_tree.specs.Tree as model
 use Rattle.def_assets.specs.Assets.{Assets}
-use Rattle.def_choice.specs.Cheapest.{Child, dissatisfaction, all_dissatisfied}
+use Rattle.def_choice.specs.Cheapest.{Child, all_dissatisfied}
+use Rattle.def_choice.specs.Dissatisfaction.{dissatisfaction}
 use Rattle.ms_tree.specs.Shape.{trees_of}
 use Rattle.ms_choice.specs.declared.slot.Slot.{Slot}
 use Rattle.def_choice.specs.declared.choice.Choice.{Choice as Rule}

@@ -3,7 +3,7 @@ use Rattle.std.proofs.Common.{◌≡◌, ℕ, ◌^◌, ◌<◌, ◌≤◌, ◌&&
 use Rattle.std.specs.Prelude.{IsTrue, nat_le, nat_lt}
 use Rattle.std.proofs.lemmas.Bool.Decides.{nat_tests}
 use Rattle.def_tree.specs.Tree as model
-use Rattle.def_types.specs.Corr.{older_row, after_row}
+use Rattle.def_types.specs.Correctness.{older_row, after_row}
 use Rattle.def_types.specs.Typed.{IsTyped}
 use Rattle.ms_tree.specs.declared.tree.Leaf.{Leaf}
 use Rattle.ms_tree.specs.declared.tree.Leaf.TheVariants.{Older, After}

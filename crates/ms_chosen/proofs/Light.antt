@@ -6,14 +6,16 @@ use Rattle.def_machine.specs.Locks.{older_holds, after_holds}
 use Rattle.def_machine.specs.Stacks.{Stack}
 use Rattle.def_script.proofs.KeyLemmas.{key_length}
 use Rattle.def_tree.specs.Tree.{Tree, Trees, multi, none, more}
-use Rattle.def_tree.specs.Range.{IsWritable, IsInRange}
-use Rattle.def_tree.specs.Size.{measure, measure_of}
+use Rattle.def_tree.specs.Range.{IsWritable}
+use Rattle.def_tree.specs.InRange.{IsInRange, measure, measure_of}
 use Rattle.def_types.specs.Typed.{IsTyped}
 use Rattle.def_assets.specs.Assets.{Assets, AreAssets}
 use Rattle.def_satisfaction.specs.Rows.{EMPTY, ZEROS}
 use Rattle.def_choice.specs.Chosen.{Choices, chosen}
-use Rattle.def_choice.specs.Cheapest.{dissatisfaction, all_dissatisfied, cheapest_of, cheapest_children, signatures}
-use Rattle.def_choice.specs.Strict.{free, free_first}
+use Rattle.def_choice.specs.Cheapest.{all_dissatisfied, cheapest_of, cheapest_children, signatures}
+use Rattle.def_choice.specs.Dissatisfaction.{dissatisfaction}
+use Rattle.def_choice.specs.Strict.{free_first}
+use Rattle.def_choice.specs.Free.{free}
 use Rattle.ms_work.proofs.Enough.{multi_enough}
 use Rattle.ms_rows.proofs.Within.{AreWithin, IsBounded, within}
 use Rattle.ms_choice.specs.declared.children.Costs.{Costs}

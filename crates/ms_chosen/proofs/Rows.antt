@@ -6,7 +6,8 @@ use Rattle.def_machine.specs.Stacks.{Stack}
 use Rattle.def_tree.specs.Tree as model
 use Rattle.def_assets.specs.Assets.{Assets}
 use Rattle.def_tree.specs.Nodes.{all_nodes, nodes_of_all}
-use Rattle.def_choice.specs.Cheapest.{dissatisfaction, all_dissatisfied}
+use Rattle.def_choice.specs.Cheapest.{all_dissatisfied}
+use Rattle.def_choice.specs.Dissatisfaction.{dissatisfaction}
 use Rattle.ms_tree.specs.declared.tree.Tree.{Tree}
 use Rattle.ms_tree.specs.Shape.{shape, shapes, trees_of}
 use Rattle.def_choice.specs.declared.choice.Choice.{Choice as Rule}

@@ -7,13 +7,15 @@ use Rattle.def_machine.specs.Stacks.{Stack}
 use Rattle.def_tree.specs.Tree as model
 use Rattle.def_tree.specs.Tree.{Key}
 use Rattle.def_tree.specs.Range.{count}
-use Rattle.def_types.specs.Corr.{thresh_row, multi_row}
+use Rattle.def_types.specs.Correctness.{thresh_row, multi_row}
 use Rattle.def_types.specs.Typed.{IsTyped, types_of}
 use Rattle.def_assets.specs.Assets.{Assets, unsigned}
 use Rattle.def_satisfaction.specs.Rows.{EMPTY}
 use Rattle.def_choice.specs.Least.{both}
-use Rattle.def_choice.specs.Cheapest.{Child, dissatisfaction, cheapest_of, cheapest_children, signatures}
-use Rattle.def_choice.specs.Strict.{free, free_children, strict_of, strict_children}
+use Rattle.def_choice.specs.Cheapest.{Child, cheapest_of, cheapest_children, signatures}
+use Rattle.def_choice.specs.Dissatisfaction.{dissatisfaction}
+use Rattle.def_choice.specs.Strict.{free_children, strict_of, strict_children}
+use Rattle.def_choice.specs.Free.{free}
 use Rattle.def_choice.proofs.Counted.{counted}
 use Rattle.def_choice.proofs.StrictTight.{choice, choice_counted}
 use Rattle.ms_tree.specs.Shape.{shape, shapes, trees_of}

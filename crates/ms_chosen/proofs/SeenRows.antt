@@ -12,7 +12,8 @@ use Rattle.def_tree.specs.Size.{nodes}
 use Rattle.def_table.specs.Table.{Row, and_or_row}
 use Rattle.def_assets.specs.Assets.{Assets}
 use Rattle.def_choice.specs.Least.{both, least}
-use Rattle.def_choice.specs.Cheapest.{cheapest_of, dissatisfaction}
+use Rattle.def_choice.specs.Cheapest.{cheapest_of}
+use Rattle.def_choice.specs.Dissatisfaction.{dissatisfaction}
 use Rattle.ms_rows.specs.declared.ways.Ways.{Ways}
 use Rattle.ms_rows.specs.declared.ways.Row as rust
 use Rattle.ms_rows.specs.Written.{table, known, two_row, wrap_row, IsRow}

@@ -4,7 +4,8 @@ use Rattle.std.proofs.lemmas.List.{map_more, map_push}
 use Rattle.def_tree.specs.Tree as model
 use Rattle.def_assets.specs.Assets.{Assets}
 use Rattle.def_choice.specs.Least.{both}
-use Rattle.def_choice.specs.Cheapest.{Child, dissatisfaction, all_dissatisfied, cheapest_of, cheapest_children}
+use Rattle.def_choice.specs.Cheapest.{Child, all_dissatisfied, cheapest_of, cheapest_children}
+use Rattle.def_choice.specs.Dissatisfaction.{dissatisfaction}
 use Rattle.ms_tree.specs.declared.tree.Tree.{Tree}
 use Rattle.ms_tree.specs.Shape.{shape, shapes}
 use Rattle.ms_choice.specs.declared.children.Costs.{Costs}

@@ -7,7 +7,8 @@ use Rattle.def_tree.specs.declared.Wrapper.TheVariants as wrapper
 use Rattle.def_tree.specs.Tree as model
 use Rattle.def_table.specs.Table.{and_or_row}
 use Rattle.def_assets.specs.Assets.{Assets}
-use Rattle.def_choice.specs.Cheapest.{cheapest_of, dissatisfaction}
+use Rattle.def_choice.specs.Cheapest.{cheapest_of}
+use Rattle.def_choice.specs.Dissatisfaction.{dissatisfaction}
 use Rattle.ms_choice.specs.declared.children.Costs.{Costs}
 use Rattle.ms_rows.specs.declared.ways.Row as rust
 use Rattle.ms_rows.specs.declared.ways.Argument.{Argument}

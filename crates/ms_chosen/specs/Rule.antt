@@ -4,8 +4,10 @@ use Rattle.def_machine.specs.Stacks.{Stack}
 use Rattle.def_tree.specs.Tree.{Tree, Trees, none, more}
 use Rattle.def_assets.specs.Assets.{Assets}
 use Rattle.def_choice.specs.Least.{least}
-use Rattle.def_choice.specs.Cheapest.{dissatisfaction, Child, cheapest_of}
-use Rattle.def_choice.specs.Strict.{free, strict_of}
+use Rattle.def_choice.specs.Cheapest.{Child, cheapest_of}
+use Rattle.def_choice.specs.Dissatisfaction.{dissatisfaction}
+use Rattle.def_choice.specs.Strict.{strict_of}
+use Rattle.def_choice.specs.Free.{free}
 use Rattle.ms_tree.specs.declared.tree.Leaf.{Leaf}
 use Rattle.ms_tree.specs.declared.tree.Leaf.TheVariants as leaf
 use Rattle.def_choice.specs.declared.choice.Choice.{Choice as Rule}

@@ -1,8 +1,7 @@
 //! The satisfaction that a rule chooses.
 ghost use Rattle.std.specs.Prelude.{◌≡◌, ◌≤◌, ◌*◌, vec_len, length, replicate, All, reverse, Some, OnOk, IfOk};
 ghost use Rattle.std.specs.Option.{option_map};
-ghost use Rattle.def_tree.specs.Range.{MOST_MEASURE, IsInRange};
-ghost use Rattle.def_tree.specs.Size.{measure, measure_of};
+ghost use Rattle.def_tree.specs.InRange.{MOST_MEASURE, IsInRange, measure, measure_of};
 ghost use Rattle.def_tree.specs.Tree as tree;
 ghost use Rattle.def_tree.specs.Nodes.{nodes_of_all};
 ghost use Rattle.def_sane.specs.declared.Rules.TheVariants.{Consensus};
@@ -10,7 +9,8 @@ ghost use Rattle.def_sane.specs.Unfit.{IsValidUnder};
 ghost use Rattle.def_assets.specs.Assets.{AreAssets, sig_of, known};
 ghost use Rattle.def_satisfaction.specs.Rows.{EMPTY};
 ghost use Rattle.def_choice.specs.Least.{item};
-ghost use Rattle.def_choice.specs.Cheapest.{cheapest_of, dissatisfaction, all_dissatisfied};
+ghost use Rattle.def_choice.specs.Cheapest.{cheapest_of, all_dissatisfied};
+ghost use Rattle.def_choice.specs.Dissatisfaction.{dissatisfaction};
 ghost use Rattle.ms_tree.specs.Shape.{shape, shapes, leaf_shape};
 ghost use Rattle.ms_hash.specs.Value.{kind_of, bytes_of};
 ghost use Rattle.def_choice.specs.declared.choice.Choice.{Choice as By};
@@ -28,7 +28,7 @@ use crate::weigh::{ZEROS, of_key};
 use def_choice::Choice as Rule;
 use ms_bytes::Stack;
 use ms_choice::Choice;
-use ms_hash::HashVal;
+use ms_hash::HashValue;
 use ms_held::Assets;
 use ms_rows::{Part, Way, Ways};
 use ms_tree::{Key, Leaf, Tree, View};
@@ -262,7 +262,7 @@ fn push_signature(key: &Key, assets: &Assets, stack: &mut Stack) -> Result<(), A
 }
 
 /// Pushes the known preimage of a hash value.
-fn push_preimage(value: &HashVal, assets: &Assets, stack: &mut Stack) -> Result<(), AllocError>
+fn push_preimage(value: &HashValue, assets: &Assets, stack: &mut Stack) -> Result<(), AllocError>
     ensures { OnOk result (IsPushed (item (known assets.now (kind_of value.now) (bytes_of value.now))) stack.old stack.new) }
 {
     match assets.preimage_of(value) {

@@ -1,6 +1,6 @@
 //! What is weighed of a tree: of each of its nodes once, and kept in a table in the order of their numbers.
 ghost use Rattle.std.specs.Prelude.{◌≡◌, ◌+◌, ◌≤◌, ◌<◌, ◌++◌, [], List, length, if◌then◌else◌, None, IfOk, OnOk};
-ghost use Rattle.def_tree.specs.Range.{MOST_MEASURE, IsInRange};
+ghost use Rattle.def_tree.specs.InRange.{MOST_MEASURE, IsInRange};
 ghost use Rattle.def_tree.specs.Tree as tree;
 ghost use Rattle.def_tree.specs.Tree.{Tree as Model};
 ghost use Rattle.def_types.specs.Typed.{IsTyped};

@@ -1,6 +1,6 @@
 //! The ways to satisfy and to dissatisfy the fragments with children, where it is known what was weighed of these.
 ghost use Rattle.std.specs.Prelude.{◌≡◌, ◌&&◌, ◌+◌, ◌≤◌, ◌++◌, List, length, true, None, Some, IfSome};
-ghost use Rattle.def_tree.specs.Range.{IsInRange};
+ghost use Rattle.def_tree.specs.InRange.{IsInRange};
 ghost use Rattle.def_tree.specs.Tree as tree;
 ghost use Rattle.def_tree.specs.Tree.{Tree as Model};
 ghost use Rattle.def_assets.specs.Assets.{Assets as Held};

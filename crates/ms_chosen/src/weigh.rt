@@ -1,8 +1,7 @@
 //! The least weights of canonical satisfactions and dissatisfactions, without memory.
 ghost use Rattle.std.specs.Prelude.{◌≡◌, ◌+◌, ◌*◌, ◌≤◌, vec_len, length, reverse, if◌then◌else◌, Some, None};
 ghost use Rattle.std.specs.Option.{option_map};
-ghost use Rattle.def_tree.specs.Range.{MOST_MEASURE, IsInRange};
-ghost use Rattle.def_tree.specs.Size.{measure};
+ghost use Rattle.def_tree.specs.InRange.{MOST_MEASURE, IsInRange, measure};
 ghost use Rattle.def_sane.specs.declared.Rules.TheVariants.{Consensus};
 ghost use Rattle.def_sane.specs.Unfit.{IsValidUnder};
 ghost use Rattle.def_tree.specs.Tree as tree;
@@ -12,7 +11,8 @@ ghost use Rattle.def_hash.specs.Hash.{digest_of};
 ghost use Rattle.def_satisfaction.specs.Rows.{ZEROS as the_zeros};
 ghost use Rattle.def_script.specs.Witness.{weight};
 ghost use Rattle.def_choice.specs.Least.{item};
-ghost use Rattle.def_choice.specs.Cheapest.{cheapest, cheapest_of, dissatisfaction};
+ghost use Rattle.def_choice.specs.Cheapest.{cheapest, cheapest_of};
+ghost use Rattle.def_choice.specs.Dissatisfaction.{dissatisfaction};
 ghost use Rattle.ms_hash.specs.Value.{kind_of, bytes_of};
 ghost use Rattle.ms_tree.specs.Shape.{shape, shapes, leaf_shape};
 ghost use Rattle.ms_chosen.specs.Scaffolding.Costs.{weight_of, costs_of, AreCosts};
@@ -27,7 +27,7 @@ ghost use Rattle.std.specs.Str.{bytes_eq};
 use crate::cost::both;
 use crate::row::of_row;
 use ms_choice::{Choice, Costs, Numbers, Slot, Tally};
-use ms_hash::{HashVal, hash_of};
+use ms_hash::{HashValue, hash_of};
 use ms_held::Assets;
 use ms_rows::{Argument, and_or, two, wrap};
 use ms_tree::{Key, Leaf, Tree, Two, View, Wrapper};
@@ -146,7 +146,7 @@ fn of_lock(holds: bool) -> Costs
     }
 }
 
-fn of_hash(value: &HashVal, assets: &Assets) -> Costs
+fn of_hash(value: &HashValue, assets: &Assets) -> Costs
     ensures sat { result.sat ≡ weight_of (item (known assets.now (kind_of value.now) (bytes_of value.now))) }
     ensures dsat { result.dsat ≡ weight_of (dissatisfaction (tree.hash (kind_of value.now) (bytes_of value.now))) }
 {
@@ -163,7 +163,7 @@ fn of_hash(value: &HashVal, assets: &Assets) -> Costs
 }
 
 /// Whether 32 zero bytes hash to a value, so that they can't dissatisfy it.
-fn zeros_hash_to(value: &HashVal) -> bool
+fn zeros_hash_to(value: &HashValue) -> bool
     ensures { result ≡ bytes_eq (digest_of (kind_of value.now) the_zeros) (bytes_of value.now) }
 {
     hash_of(value.kind(), &ZEROS).as_bytes() == value.as_bytes()

@@ -4,7 +4,7 @@ ghost use Rattle.def_decode.specs.Alike.{IsLikeEach};
 ghost use Rattle.def_decode.specs.Decoded.{IsReading, IsDecoded};
 ghost use Rattle.def_emit.specs.Emit.{script_of};
 ghost use Rattle.def_sane.specs.declared.Rules.TheVariants.{Policy};
-ghost use Rattle.def_tree.specs.Range.{IsInRange};
+ghost use Rattle.def_tree.specs.InRange.{IsInRange};
 ghost use Rattle.def_tree.specs.Tree.{Tree as TheTree};
 ghost use Rattle.ms_tree.specs.Shape.{shape};
 

@@ -11,8 +11,8 @@ use Rattle.def_tree.specs.Tree.{Tree, Trees, Key, pk_h, and_or, two, thresh, wra
 use Rattle.def_tree.specs.Nodes.{all_nodes, nodes_of_all}
 use Rattle.def_types.specs.Row.{Need, AllHold}
 use Rattle.def_types.specs.Malleable.{and_or_row, two_row, thresh_row, wrap_row}
-use Rattle.def_types.specs.Typed.{mall_of, malls_of, IsMallTyped, AreMallTyped}
-use Rattle.def_types.proofs.Rows.{mall_rows}
+use Rattle.def_types.specs.Typed.{properties_of, all_properties_of, IsMalleabilityTyped, AreMalleabilityTyped}
+use Rattle.def_types.proofs.Rows.{malleability_rows}
 use Rattle.def_sane.specs.Locks.{Kinds, union, kinds, kinds_of_all, conflict, kinds_of_each, some_conflict, mixes, mix}
 use Rattle.def_sane.specs.Keys.{keys, keys_of_all}
 use Rattle.def_decode.specs.Nested.{EachHashed, EachHashedOf}
@@ -106,14 +106,14 @@ mix_is_none t = (λ e. (no_mix t).0 (none_from_first 0 (all_nodes t) e), λ h. f
 -- ---- what two trees have in common
 
 record Same (t n : Tree) : Type 0 where
-  properties : mall_of n ≡ mall_of t
-  typed : IsMallTyped n ↔ IsMallTyped t
+  properties : properties_of n ≡ properties_of t
+  typed : IsMalleabilityTyped n ↔ IsMalleabilityTyped t
   locks : kinds n ≡ kinds t
   unmixed : NoMix n ↔ NoMix t
 
 record AreSame (ts ns : Trees) : Type 0 where
-  properties : malls_of ns ≡ malls_of ts
-  typed : AreMallTyped ns ↔ AreMallTyped ts
+  properties : all_properties_of ns ≡ all_properties_of ts
+  typed : AreMalleabilityTyped ns ↔ AreMalleabilityTyped ts
   locks : kinds_of_all ns ≡ kinds_of_all ts
   each : kinds_of_each ns ≡ kinds_of_each ts
   unmixed : AreNoMix ns ↔ AreNoMix ts
@@ -201,25 +201,25 @@ or_true : (a : Bool) → (a || true) ≡ true
 or_true a = grind arith
 
 c_turns : Turns (λ t. wrap wrapper.C t)
-unfolding mall_rows
+unfolding malleability_rows
 c_turns x y = record {
-  properties = λ k. record { s = or_true (mall_of x).s k; f = (mall_of x).s || (mall_of y).f; e = false };
+  properties = λ k. record { s = or_true (properties_of x).s k; f = (properties_of x).s || (properties_of y).f; e = false };
   typed = (λ h. ((h.0, h.1.0, tt), tt), λ h. (h.0.0, (h.0.1, tt), tt));
   locks = refl;
   unmixed = (λ h. h, λ h. h);
 }
 
 v_turns : Turns (λ t. wrap wrapper.V t)
-unfolding mall_rows
+unfolding malleability_rows
 v_turns x y = record {
-  properties = λ k. record { s = (mall_of x).s || (mall_of y).s; f = or_true (mall_of x).s k; e = false };
+  properties = λ k. record { s = (properties_of x).s || (properties_of y).s; f = or_true (properties_of x).s k; e = false };
   typed = (λ h. ((h.0, h.1.0, tt), tt), λ h. (h.0.0, (h.0.1, tt), tt));
   locks = refl;
   unmixed = (λ h. h, λ h. h);
 }
 
 n_turns : Turns (λ t. wrap wrapper.N t)
-unfolding mall_rows
+unfolding malleability_rows
 n_turns x y = record {
   properties = refl;
   typed = (λ h. ((h.0, h.1.0, tt), tt), λ h. (h.0.0, (h.0.1, tt), tt));
@@ -241,13 +241,13 @@ and_b_forced : (xs yf ys wf ws : Bool) → (xs || ((yf && wf) || (ys && yf) || (
 and_b_forced xs yf ys wf ws = grind arith
 
 and_v_turns : (w : Tree) → Turns (λ t. two kind.AndV t w)
-unfolding mall_rows
+unfolding malleability_rows
 and_v_turns w x y =
     let three = mixed_three (kinds x) (kinds y) (kinds w) in
     record {
       properties = λ k. record {
-        s = or_assoc (mall_of x).s (mall_of y).s (mall_of w).s k;
-        f = or_assoc (mall_of x).s (mall_of y).s (mall_of w).f k;
+        s = or_assoc (properties_of x).s (properties_of y).s (properties_of w).s k;
+        f = or_assoc (properties_of x).s (properties_of y).s (properties_of w).f k;
         e = false;
       };
       typed = (λ h. ((h.0, h.1.0, tt), h.1.1, tt), λ h. (h.0.0, (h.0.1, h.1, tt), tt));
@@ -259,13 +259,13 @@ and_v_turns w x y =
     }
 
 and_b_turns : (w : Tree) → Turns (λ t. two kind.AndB t w)
-unfolding mall_rows
+unfolding malleability_rows
 and_b_turns w x y =
     let three = mixed_three (kinds x) (kinds y) (kinds w) in
     record {
       properties = λ k. record {
-        s = or_assoc (mall_of x).s (mall_of y).s (mall_of w).s k;
-        f = and_b_forced (mall_of x).s (mall_of y).f (mall_of y).s (mall_of w).f (mall_of w).s k;
+        s = or_assoc (properties_of x).s (properties_of y).s (properties_of w).s k;
+        f = and_b_forced (properties_of x).s (properties_of y).f (properties_of y).s (properties_of w).f (properties_of w).s k;
         e = false;
       };
       typed = (λ h. ((h.0, h.1.0, tt), h.1.1, tt), λ h. (h.0.0, (h.0.1, h.1, tt), tt));
@@ -314,10 +314,10 @@ module _ (g : Key → Key) where
         }
 
   -- the malleability properties, and that no node mixes
-  pub nest_properties : (t : Tree) → mall_of (nest g t) ≡ mall_of t
+  pub nest_properties : (t : Tree) → properties_of (nest g t) ≡ properties_of t
   nest_properties t = (same_nest t).properties
 
-  pub nest_typed : (t : Tree) → IsMallTyped (nest g t) ↔ IsMallTyped t
+  pub nest_typed : (t : Tree) → IsMalleabilityTyped (nest g t) ↔ IsMalleabilityTyped t
   nest_typed t = (same_nest t).typed
 
   pub nest_mix : (t : Tree) → (mix (nest g t) ≡ None) ↔ (mix t ≡ None)

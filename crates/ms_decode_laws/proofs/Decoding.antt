@@ -13,14 +13,14 @@ use Rattle.def_script.specs.Spell.{spell_one, spell}
 use Rattle.def_script.specs.Items.{items}
 use Rattle.def_script.specs.Laws.{item_of}
 use Rattle.def_tree.specs.Tree.{Tree, Trees, Key, pk_h, and_or, two, thresh, wrap, none, more}
-use Rattle.def_tree.specs.Size.{measure, depth}
-use Rattle.def_tree.specs.Range.{IsKey, MOST_MEASURE}
+use Rattle.def_tree.specs.InRange.{measure, depth, MOST_MEASURE}
+use Rattle.def_tree.specs.Range.{IsKey}
 use Rattle.def_types.specs.declared.Base.TheVariants.{B, W}
-use Rattle.def_types.specs.declared.Ty.{Ty}
-use Rattle.def_types.specs.declared.Mall.{Mall}
-use Rattle.def_types.specs.Malleable.{mall}
-use Rattle.def_types.specs.Typed.{type_of, IsTyped, mall_of, IsMallTyped}
-use Rattle.def_types.proofs.Typing.{mall_is_non_malleable}
+use Rattle.def_types.specs.declared.CorrectnessType.{CorrectnessType}
+use Rattle.def_types.specs.declared.MalleabilityProperties.{MalleabilityProperties}
+use Rattle.def_types.specs.Malleable.{malleability_of}
+use Rattle.def_types.specs.Typed.{type_of, IsTyped, properties_of, IsMalleabilityTyped}
+use Rattle.def_types.proofs.Typing.{malleability_is_typed}
 use Rattle.def_emit.specs.Emit.{emit, script_of}
 use Rattle.def_emit.proofs.Short.{items-script_of}
 use Rattle.def_limits.specs.declared.Limits.{Limits}
@@ -142,19 +142,21 @@ same_greatest t n same limits = (
 )
 
 -- the same malleability properties, and sane alike
-same_properties : (t n : Tree) → IsMallTyped n ↔ IsMallTyped t → mall_of n ≡ mall_of t → (m : Mall) → (mall n ≡ Ok m) ↔ (mall t ≡ Ok m)
+same_properties : (t n : Tree) → IsMalleabilityTyped n ↔ IsMalleabilityTyped t → properties_of n ≡ properties_of t → (m : MalleabilityProperties)
+    → (malleability_of n ≡ Ok m) ↔ (malleability_of t ≡ Ok m)
 same_properties t n typed is m =
-    let a = mall_is_non_malleable n m in
-    let b = mall_is_non_malleable t m in (
+    let a = malleability_is_typed n m in
+    let b = malleability_is_typed t m in (
       λ e. let h = a.0 e in b.1 (typed.0 h.0, h.1 ∙ is),
       λ e. let h = b.0 e in a.1 (typed.1 h.0, h.1 ∙ sym is),
     )
 
-same_sane : (t n : Tree) → IsValid n ↔ IsValid t → IsMallTyped n ↔ IsMallTyped t → mall_of n ≡ mall_of t → (mix n ≡ None) ↔ (mix t ≡ None) → held.keys n ≡ held.keys t → IsSane n ↔ IsSane t
+same_sane : (t n : Tree) → IsValid n ↔ IsValid t → IsMalleabilityTyped n ↔ IsMalleabilityTyped t → properties_of n ≡ properties_of t → (mix n ≡ None) ↔ (mix t ≡ None)
+    → held.keys n ≡ held.keys t → IsSane n ↔ IsSane t
 same_sane t n valid typed is locks keys =
     let a = sane_means n in
     let b = sane_means t in
-    let s : (mall_of n).s ≡ (mall_of t).s = ap (λ (m : Mall). m.s) is in (
+    let s : (properties_of n).s ≡ (properties_of t).s = ap (λ (m : MalleabilityProperties). m.s) is in (
       λ e. let h = a.0 e in b.1 (valid.0 h.0, typed.0 h.1, sym s ∙ h.2, locks.0 h.3, subst AreDistinct keys h.4),
       λ e. let h = b.0 e in a.1 (valid.1 h.0, typed.1 h.1, s ∙ h.2, locks.1 h.3, subst AreDistinct (sym keys) h.4),
     )
@@ -172,7 +174,7 @@ nest_is_decoded keys script t all h =
     let size : (limits_of n).size ≤ MOST_SIZE = subst (λ (m : Limits). m.size ≤ MOST_SIZE) (sym l) v.2 in
     let count : (limits_of n).ops ≤ MAX_OPS_PER_SCRIPT = subst (λ (m : Limits). m.ops ≤ MAX_OPS_PER_SCRIPT) (sym l) v.3 in
     let stack : (limits_of n).items ≤ MOST_ITEMS = subst (λ (m : Limits). m.items ≤ MOST_ITEMS) (sym l) v.4 in
-    let base : (type_of n).base ≡ B = ap (λ (ty : Ty). ty.base) i.type ∙ v.1 in
+    let base : (type_of n).base ≡ B = ap (λ (ty : CorrectnessType). ty.base) i.type ∙ v.1 in
     let listed : EachHashed (λ k. Contains keys k) n = each_map P (λ k. Contains keys k) (λ k f. found_in Key (λ key. bytes_eq (hash160 key) (hash160 k)) keys k f) n i.hashed in
     let valid : IsValid n = (valid_means n).1 (i.typed, base, size, count, stack) in
     record {

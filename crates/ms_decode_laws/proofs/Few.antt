@@ -5,7 +5,7 @@ use Rattle.def_script.specs.Instruction.{Instruction, push, code}
 use Rattle.def_tree.specs.declared.Two.TheVariants as kind
 use Rattle.def_tree.specs.declared.Wrapper.TheVariants as wrapper
 use Rattle.def_tree.specs.Tree.{Tree, Trees, Key, and_or, two, thresh, multi, wrap, none, more}
-use Rattle.def_tree.specs.Size.{measure, measure_of}
+use Rattle.def_tree.specs.InRange.{measure, measure_of}
 use Rattle.def_emit.specs.Emit.{push_number}
 use Rattle.ms_decode_laws.proofs.Onto.{back, fused, onto, onto_sum, onto_added}
 use Rattle.ms_decode_laws.proofs.Low.{head_fuses}

@@ -11,11 +11,11 @@ use Rattle.def_tree.specs.declared.Two.TheVariants as kind
 use Rattle.def_tree.specs.declared.Wrapper.{Wrapper}
 use Rattle.def_tree.specs.declared.Wrapper.TheVariants as wrapper
 use Rattle.def_tree.specs.Tree.{Tree, Trees, Key, just_0, just_1, pk_k, pk_h, older, after, hash, and_or, two, thresh, multi, wrap, none, more}
-use Rattle.def_tree.specs.Size.{measure, measure_of, depth, depth_of}
-use Rattle.def_tree.specs.Range.{IsKey, IsWritable, AreWritable, MOST_MEASURE, MOST_DEPTH, TEN_DIGITS}
+use Rattle.def_tree.specs.InRange.{measure, measure_of, depth, depth_of, MOST_MEASURE, MOST_DEPTH}
+use Rattle.def_tree.specs.Range.{IsKey, IsWritable, AreWritable, TEN_DIGITS}
 use Rattle.def_types.specs.declared.Base.TheVariants.{B, V, K, W}
 use Rattle.def_types.specs.Typed.{type_of, IsTyped, AreTyped}
-use Rattle.def_types.proofs.Rows.{corr_rows}
+use Rattle.def_types.proofs.Rows.{correctness_rows}
 use Rattle.def_types.proofs.Facts.{OthersFit, typed-and_or, typed-and_v, typed-and_b, typed-or_b, typed-or_c, typed-or_d, typed-or_i, typed-thresh, typed-thresh_none, typed-multi, typed-wrap_a, typed-wrap_s, typed-wrap_c, typed-wrap_d, typed-wrap_v, typed-wrap_j, typed-wrap_n}
 use Rattle.def_decode.specs.Nested.{is_and_v, RightNested, AreRightNested, EachHashed, EachHashedOf}
 use Rattle.ms_decode_laws.specs.Scaffolding.Reader.{natural, natural_of, fits}
@@ -97,7 +97,7 @@ module _ (find : Bytes → Option Key) where
   fit t h = fits_within t h.deep h.large
 
   mutual
-    unfolding corr_rows
+    unfolding correctness_rows
 
     pub parses : (t : Tree) → Fit find t → Parses find t
     parses just_0 h = as_one find just_0 (λ e. cc) zero_one

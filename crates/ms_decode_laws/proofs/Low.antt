@@ -6,12 +6,12 @@ use Rattle.def_script.specs.Instruction.{Instruction, push, code, opcode_count}
 use Rattle.def_tree.specs.declared.Two.TheVariants as kind
 use Rattle.def_tree.specs.declared.Wrapper.TheVariants as wrapper
 use Rattle.def_tree.specs.Tree.{Tree, Trees, Key, just_0, just_1, pk_k, pk_h, older, after, hash, and_or, two, thresh, multi, wrap, none, more}
-use Rattle.def_tree.specs.Size.{depth, depth_of}
+use Rattle.def_tree.specs.InRange.{depth, depth_of}
 use Rattle.def_types.specs.declared.Base.{Base}
 use Rattle.def_types.specs.declared.Base.TheVariants.{B, V, K, W}
-use Rattle.def_types.specs.Corr.{all_z, all_z_but_one}
+use Rattle.def_types.specs.Correctness.{all_z, all_z_but_one}
 use Rattle.def_types.specs.Typed.{type_of, types_of, IsTyped, AreTyped}
-use Rattle.def_types.proofs.Rows.{corr_rows}
+use Rattle.def_types.proofs.Rows.{correctness_rows}
 use Rattle.def_types.proofs.Facts.{OthersFit, typed-and_or, typed-and_v, typed-and_b, typed-or_b, typed-or_c, typed-or_d, typed-or_i, typed-thresh, typed-thresh_none, typed-wrap_a, typed-wrap_s, typed-wrap_c, typed-wrap_d, typed-wrap_v, typed-wrap_j, typed-wrap_n}
 use Rattle.def_emit.specs.Emit.{push_number}
 use Rattle.def_decode.specs.Nested.{is_and_v, RightNested, AreRightNested}
@@ -71,7 +71,7 @@ count_fused : (l : List Instruction) → opcode_count (fused l) ≡ opcode_count
 count_fused l = grind arith
 
 head_of : (t : Tree) → is_and_v t ≡ false → (type_of t).base ≡ B → (l : List Instruction) → head_fuses (onto t l) ≡ fuses t
-unfolding corr_rows
+unfolding correctness_rows
 head_of (two kind.AndV x y) n b l = cc
 head_of (wrap wrapper.S x) n b l = cc
 head_of (wrap wrapper.V x) n b l = cc
@@ -170,12 +170,12 @@ many_small xz xo yz yo r s e = grind arith
 
 -- a dissatisfiable one is no `and_v`, and a W is none
 pub d_no_and_v : (t : Tree) → (type_of t).d ≡ true → is_and_v t ≡ false
-unfolding corr_rows
+unfolding correctness_rows
 d_no_and_v (two kind.AndV x y) e = cc
 d_no_and_v other e = refl
 
 pub w_no_and_v : (t : Tree) → IsTyped t → (type_of t).base ≡ W → is_and_v t ≡ false
-unfolding corr_rows
+unfolding correctness_rows
 w_no_and_v (two kind.AndV x y) h e = absurd ((typed-and_v x y h).3 e)
 w_no_and_v other h e = refl
 
@@ -196,7 +196,7 @@ pub not_w : (b c : Base) → b ≡ c → c ≢ W → b ≢ W
 not_w b c e n = λ h. n (sym e ∙ h)
 
 mutual
-  unfolding corr_rows
+  unfolding correctness_rows
 
   pub low : (t : Tree) → IsTyped t → RightNested t → Low t
   low (and_or x y z) h n =

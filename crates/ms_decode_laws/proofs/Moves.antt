@@ -7,11 +7,11 @@ use Rattle.def_tree.specs.Tree.{Tree, Key, pk_k, pk_h, and_or, two, wrap}
 use Rattle.def_tree.specs.Range.{IsWritable}
 use Rattle.def_types.specs.declared.Base.{Base}
 use Rattle.def_types.specs.declared.Base.TheVariants.{B}
-use Rattle.def_types.specs.declared.Ty.{Ty}
+use Rattle.def_types.specs.declared.CorrectnessType.{CorrectnessType}
 use Rattle.def_types.specs.Row.{Row, AllHold}
-use Rattle.def_types.specs.Corr.{is_b, is_v, is_k, two_row, wrap_row}
+use Rattle.def_types.specs.Correctness.{is_b, is_v, is_k, two_row, wrap_row}
 use Rattle.def_types.specs.Typed.{type_of, IsTyped}
-use Rattle.def_types.proofs.Rows.{corr_rows}
+use Rattle.def_types.proofs.Rows.{correctness_rows}
 use Rattle.def_limits.specs.Formal.{Takes}
 use Rattle.def_limits.specs.Scaffolding.Most.{both, most_sat, most_dsat}
 use Rattle.def_decode.specs.Nested.{is_and_v, RightNested, EachHashed}
@@ -22,7 +22,7 @@ abbrev IsPart : Base → Type 0
 IsPart b = IsTrue (is_b b || is_k b || is_v b)
 
 -- f puts something around a tree, and can be moved into an `and_v`
-pub record Moves (P : Key → Type 0) (f : Tree → Tree) (row : Ty → Row Ty) : Type 0 where
+pub record Moves (P : Key → Type 0) (f : Tree → Tree) (row : CorrectnessType → Row CorrectnessType) : Type 0 where
   pub type : (t : Tree) → type_of (f t) ≡ (row (type_of t)).gives
   pub typed : (t : Tree) → IsTyped t → AllHold (row (type_of t)).needs → IsTyped (f t)
   pub nested : (t : Tree) → is_and_v t ≡ false → RightNested t → RightNested (f t)
@@ -39,7 +39,7 @@ abbrev pub out : (Tree → Tree) → Tree → Tree
 out f (two kind.AndV x y) = two kind.AndV x (out f y)
 out f t = f t
 
-pub record Moved (P : Key → Type 0) (f : Tree → Tree) (row : Ty → Row Ty) (t : Tree) : Type 0 where
+pub record Moved (P : Key → Type 0) (f : Tree → Tree) (row : CorrectnessType → Row CorrectnessType) (t : Tree) : Type 0 where
   pub type : type_of (out f t) ≡ (row (type_of t)).gives
   pub typed : IsTyped (out f t)
   pub nested : RightNested (out f t)
@@ -49,15 +49,15 @@ pub record Moved (P : Key → Type 0) (f : Tree → Tree) (row : Ty → Row Ty) 
   pub dsat : most_dsat (out f t) ≡ most_dsat (f t)
   pub order : (l : List Instruction) → onto (out f t) l ≡ onto (f t) l
 
-module _ (P : Key → Type 0) (f : Tree → Tree) (row : Ty → Row Ty) (m : Moves P f row) where
+module _ (P : Key → Type 0) (f : Tree → Tree) (row : CorrectnessType → Row CorrectnessType) (m : Moves P f row) where
   pub moved : (t : Tree) → IsTyped t → AllHold (row (type_of t)).needs → RightNested t → IsWritable t → EachHashed P t → Moved P f row t
-  unfolding corr_rows
+  unfolding correctness_rows
   moved (two kind.AndV x y) typed needs nested writable hashed =
       let below = m.needs x y needs in
       let i = moved y typed.1 below.0 nested.2 writable.1 hashed.1 in
       record {
-        type = ap (λ (ty : Ty). (two_row kind.AndV (type_of x) ty).gives) i.type ∙ m.same x y typed.1 needs;
-        typed = (typed.0, i.typed, (typed.2.0, (subst (λ (ty : Ty). IsPart ty.base) (sym i.type) below.1, tt)));
+        type = ap (λ (ty : CorrectnessType). (two_row kind.AndV (type_of x) ty).gives) i.type ∙ m.same x y typed.1 needs;
+        typed = (typed.0, i.typed, (typed.2.0, (subst (λ (ty : CorrectnessType). IsPart ty.base) (sym i.type) below.1, tt)));
         nested = (nested.0, nested.1, i.nested);
         writable = (writable.0, i.writable);
         hashed = (hashed.0, i.hashed);
@@ -84,7 +84,7 @@ right_false : (a b : Bool) → b ≡ false → (a && b) ≡ false
 right_false a b e = grind arith
 
 k_not_z : (t : Tree) → is_k (type_of t).base ≡ true → IsTyped t → (type_of t).z ≡ false
-unfolding corr_rows
+unfolding correctness_rows
 k_not_z (pk_k key) k h = refl
 k_not_z (pk_h key) k h = refl
 k_not_z (and_or x y z) k h = mid_false (type_of x).z (type_of y).z (type_of z).z (k_not_z y k h.1)
@@ -112,8 +112,8 @@ both_none a = grind arith
 
 -- the five moves
 module _ (P : Key → Type 0) where
-  c_same : (x y : Ty) → y.z ≡ false → (two_row kind.AndV x (wrap_row wrapper.C y).gives).gives ≡ (wrap_row wrapper.C (two_row kind.AndV x y).gives).gives
-  unfolding corr_rows
+  c_same : (x y : CorrectnessType) → y.z ≡ false → (two_row kind.AndV x (wrap_row wrapper.C y).gives).gives ≡ (wrap_row wrapper.C (two_row kind.AndV x y).gives).gives
+  unfolding correctness_rows
   c_same x y no_z = λ i. record {
     base = B;
     z = right_false x.z false refl i;
@@ -124,7 +124,7 @@ module _ (P : Key → Type 0) where
   }
 
   pub c_moves : Moves P (λ t. wrap wrapper.C t) (wrap_row wrapper.C)
-  unfolding corr_rows
+  unfolding correctness_rows
   c_moves = record {
     type = λ t. refl;
     typed = λ t h n. (h, n);
@@ -139,7 +139,7 @@ module _ (P : Key → Type 0) where
   }
 
   pub v_moves : Moves P (λ t. wrap wrapper.V t) (wrap_row wrapper.V)
-  unfolding corr_rows
+  unfolding correctness_rows
   v_moves = record {
     type = λ t. refl;
     typed = λ t h n. (h, n);
@@ -154,7 +154,7 @@ module _ (P : Key → Type 0) where
   }
 
   pub n_moves : Moves P (λ t. wrap wrapper.N t) (wrap_row wrapper.N)
-  unfolding corr_rows
+  unfolding correctness_rows
   n_moves = record {
     type = λ t. refl;
     typed = λ t h n. (h, n);
@@ -170,7 +170,7 @@ module _ (P : Key → Type 0) where
 
   module _ (w : Tree) (w_typed : IsTyped w) (w_nested : RightNested w) (w_writable : IsWritable w) (w_hashed : EachHashed P w) where
     pub and_b_moves : Moves P (λ t. two kind.AndB t w) (λ ty. two_row kind.AndB ty (type_of w))
-    unfolding corr_rows
+    unfolding correctness_rows
     and_b_moves = record {
       type = λ t. refl;
       typed = λ t h n. (h, w_typed, n);
@@ -192,7 +192,7 @@ module _ (P : Key → Type 0) where
     }
 
     pub and_v_moves : Moves P (λ t. two kind.AndV t w) (λ ty. two_row kind.AndV ty (type_of w))
-    unfolding corr_rows
+    unfolding correctness_rows
     and_v_moves = record {
       type = λ t. refl;
       typed = λ t h n. (h, w_typed, n);

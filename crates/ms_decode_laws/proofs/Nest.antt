@@ -9,9 +9,9 @@ use Rattle.def_tree.specs.declared.Wrapper.{Wrapper}
 use Rattle.def_tree.specs.declared.Wrapper.TheVariants as wrapper
 use Rattle.def_tree.specs.Tree.{Tree, Trees, Key, pk_h, and_or, two, thresh, wrap, none, more}
 use Rattle.def_tree.specs.Range.{IsKey, IsWritable, AreWritable, count}
-use Rattle.def_types.specs.declared.Ty.{Ty}
+use Rattle.def_types.specs.declared.CorrectnessType.{CorrectnessType}
 use Rattle.def_types.specs.Row.{Row, AllHold}
-use Rattle.def_types.specs.Corr.{and_or_row, two_row, thresh_row, wrap_row}
+use Rattle.def_types.specs.Correctness.{and_or_row, two_row, thresh_row, wrap_row}
 use Rattle.def_types.specs.Typed.{type_of, types_of, IsTyped, AreTyped}
 use Rattle.def_emit.specs.Emit.{push_number}
 use Rattle.def_script.specs.Signature.{MAX_SIGNATURE_SIZE}
@@ -71,13 +71,13 @@ module _ (P : Key → Type 0) (g : Key → Key) (same_hash : (k : Key) → hash1
   Found k = P (g k) × IsKey (g k)
 
   -- what is put around a tree that is nested already is moved outwards
-  around : (f : Tree → Tree) (row : Ty → Row Ty) (t x n : Tree) → Moves P f row → IsNest P x n → AllHold (row (type_of x)).needs
+  around : (f : Tree → Tree) (row : CorrectnessType → Row CorrectnessType) (t x n : Tree) → Moves P f row → IsNest P x n → AllHold (row (type_of x)).needs
       → (row (type_of x)).gives ≡ type_of t → most_sat (f n) ≡ most_sat t → most_dsat (f n) ≡ most_dsat t
       → ((l : List Instruction) → onto (f n) l ≡ onto t l) → IsNest P t (out f n)
   around f row t x n moves i needs type sat dsat order =
-      let m = moved P f row moves n i.typed (subst (λ (ty : Ty). AllHold (row ty).needs) (sym i.type) needs) i.nested i.writable i.hashed in
+      let m = moved P f row moves n i.typed (subst (λ (ty : CorrectnessType). AllHold (row ty).needs) (sym i.type) needs) i.nested i.writable i.hashed in
       record {
-        type = m.type ∙ ap (λ (ty : Ty). (row ty).gives) i.type ∙ type;
+        type = m.type ∙ ap (λ (ty : CorrectnessType). (row ty).gives) i.type ∙ type;
         typed = m.typed;
         nested = m.nested;
         writable = m.writable;
@@ -92,8 +92,8 @@ module _ (P : Key → Type 0) (g : Key → Key) (same_hash : (k : Key) → hash1
       ≡ most_sat (wrap w x) → most_dsat (wrap w n) ≡ most_dsat (wrap w x) → ((l : List Instruction) → onto (wrap w n) l ≡ onto (wrap w x) l)
       → IsNest P (wrap w x) (wrap w n)
   kept w x n i needs nested sat dsat order = record {
-    type = ap (λ (ty : Ty). (wrap_row w ty).gives) i.type;
-    typed = (i.typed, subst (λ (ty : Ty). AllHold (wrap_row w ty).needs) (sym i.type) needs);
+    type = ap (λ (ty : CorrectnessType). (wrap_row w ty).gives) i.type;
+    typed = (i.typed, subst (λ (ty : CorrectnessType). AllHold (wrap_row w ty).needs) (sym i.type) needs);
     nested = nested;
     writable = i.writable;
     hashed = i.hashed;
@@ -108,7 +108,12 @@ module _ (P : Key → Type 0) (g : Key → Key) (same_hash : (k : Key) → hash1
       → ((l : List Instruction) → onto (two b n m) l ≡ onto (two b x y) l) → IsNest P (two b x y) (two b n m)
   beside b x y n m i j needs nested sat dsat order = record {
     type = λ k. (two_row b (i.type k) (j.type k)).gives;
-    typed = (i.typed, j.typed, subst (λ (ty : Ty). AllHold (two_row b ty (type_of m)).needs) (sym i.type) (subst (λ (ty : Ty). AllHold (two_row b (type_of x) ty).needs) (sym j.type) needs));
+    typed = (
+      i.typed,
+      j.typed,
+      subst (λ (ty : CorrectnessType). AllHold (two_row b ty (type_of m)).needs) (sym i.type) (subst (λ (ty : CorrectnessType). AllHold (two_row b
+          (type_of x) ty).needs) (sym j.type) needs),
+    );
     nested = nested;
     writable = (i.writable, j.writable);
     hashed = (i.hashed, j.hashed);
@@ -141,9 +146,9 @@ module _ (P : Key → Type 0) (g : Key → Key) (same_hash : (k : Key) → hash1
             a.typed,
             b.typed,
             c.typed,
-            subst (λ (ty : Ty). AllHold (and_or_row ty (type_of (nest g y)) (type_of (nest g z))).needs) (sym a.type)
-                (subst (λ (ty : Ty). AllHold (and_or_row (type_of x) ty (type_of (nest g z))).needs) (sym b.type)
-                (subst (λ (ty : Ty). AllHold (and_or_row (type_of x) (type_of y) ty).needs) (sym c.type) h.3)),
+            subst (λ (ty : CorrectnessType). AllHold (and_or_row ty (type_of (nest g y)) (type_of (nest g z))).needs) (sym a.type)
+                (subst (λ (ty : CorrectnessType). AllHold (and_or_row (type_of x) ty (type_of (nest g z))).needs) (sym b.type)
+                (subst (λ (ty : CorrectnessType). AllHold (and_or_row (type_of x) (type_of y) ty).needs) (sym c.type) h.3)),
           );
           nested = (a.nested, b.nested, c.nested);
           writable = (a.writable, b.writable, c.writable);
@@ -158,17 +163,17 @@ module _ (P : Key → Type 0) (g : Key → Key) (same_hash : (k : Key) → hash1
     is_nest (two kind.AndV x y) h w e =
         let i = is_nest x h.0 w.0 e.0 in
         let j = is_nest y h.1 w.1 e.1 in
-        around (λ (t : Tree). two kind.AndV t (nest g y)) (λ (ty : Ty). two_row kind.AndV ty (type_of (nest g y))) (two kind.AndV x y) x (nest g x)
+        around (λ (t : Tree). two kind.AndV t (nest g y)) (λ (ty : CorrectnessType). two_row kind.AndV ty (type_of (nest g y))) (two kind.AndV x y) x (nest g x)
         (and_v_moves P (nest g y) j.typed j.nested j.writable j.hashed) i
-        (subst (λ (ty : Ty). AllHold (two_row kind.AndV (type_of x) ty).needs) (sym j.type) h.2)
+        (subst (λ (ty : CorrectnessType). AllHold (two_row kind.AndV (type_of x) ty).needs) (sym j.type) h.2)
         (λ k. (two_row kind.AndV (type_of x) (j.type k)).gives) (λ k. both (j.sat k) (i.sat k)) refl
         (λ l. j.order (onto (nest g x) l) ∙ ap (onto y) (i.order l))
     is_nest (two kind.AndB x y) h w e =
         let i = is_nest x h.0 w.0 e.0 in
         let j = is_nest y h.1 w.1 e.1 in
-        around (λ (t : Tree). two kind.AndB t (nest g y)) (λ (ty : Ty). two_row kind.AndB ty (type_of (nest g y))) (two kind.AndB x y) x (nest g x)
+        around (λ (t : Tree). two kind.AndB t (nest g y)) (λ (ty : CorrectnessType). two_row kind.AndB ty (type_of (nest g y))) (two kind.AndB x y) x (nest g x)
         (and_b_moves P (nest g y) j.typed j.nested j.writable j.hashed) i
-        (subst (λ (ty : Ty). AllHold (two_row kind.AndB (type_of x) ty).needs) (sym j.type) h.2)
+        (subst (λ (ty : CorrectnessType). AllHold (two_row kind.AndB (type_of x) ty).needs) (sym j.type) h.2)
         (λ k. (two_row kind.AndB (type_of x) (j.type k)).gives) (λ k. both (j.sat k) (i.sat k)) (λ k. both (j.dsat k) (i.dsat k))
         (λ l. ap (λ o. code op.BoolAnd ∷ o) (j.order (onto (nest g x) l) ∙ ap (onto y) (i.order l)))
     is_nest (two kind.OrB x z) h w e =
@@ -202,8 +207,8 @@ module _ (P : Key → Type 0) (g : Key → Key) (same_hash : (k : Key) → hash1
     is_nest (thresh n xs) h w e =
         let i = are_nest xs h.0 w.2 e in
         record {
-          type = ap (λ (tys : List Ty). (thresh_row n tys).gives) i.types;
-          typed = (i.typed, subst (λ (tys : List Ty). AllHold (thresh_row n tys).needs) (sym i.types) h.1);
+          type = ap (λ (tys : List CorrectnessType). (thresh_row n tys).gives) i.types;
+          typed = (i.typed, subst (λ (tys : List CorrectnessType). AllHold (thresh_row n tys).needs) (sym i.types) h.1);
           nested = i.nested;
           writable = (w.0, subst (λ (c : ℕ). 1 ≤ c) (sym i.same_count) w.1, i.writable);
           hashed = i.hashed;

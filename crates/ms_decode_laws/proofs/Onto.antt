@@ -33,8 +33,8 @@ abbrev mutual
   onto just_1 is = push_number 1 ∷ is
   onto (pk_k key) is = push key ∷ is
   onto (pk_h key) is = code op.EqualVerify ∷ push (hash160 key) ∷ code op.Hash160 ∷ code op.Dup ∷ is
-  onto (older n) is = code op.Csv ∷ push_number n ∷ is
-  onto (after n) is = code op.Cltv ∷ push_number n ∷ is
+  onto (older n) is = code op.CheckSequenceVerify ∷ push_number n ∷ is
+  onto (after n) is = code op.CheckLockTimeVerify ∷ push_number n ∷ is
   onto (hash kind value) is = code op.Equal ∷ push value ∷ code (hash_opcode kind) ∷ code op.EqualVerify ∷ push_number 32 ∷ code op.Size ∷ is
   onto (and_or x y z) is = code op.EndIf ∷ onto y (code op.Else ∷ onto z (code op.NotIf ∷ onto x is))
   onto (two kind.AndV x y) is = onto y (onto x is)

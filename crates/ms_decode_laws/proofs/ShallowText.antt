@@ -6,7 +6,7 @@ use Rattle.std.specs.Prelude.{⊤}
 use Rattle.std.proofs.lemmas.Bool.{ltb-true}
 use Rattle.def_script.specs.Bytes.{Bytes}
 use Rattle.def_tree.specs.Tree.{Tree, Trees, just_0, none, more}
-use Rattle.def_tree.specs.Size.{depth, depth_of}
+use Rattle.def_tree.specs.InRange.{depth, depth_of}
 use Rattle.def_text.specs.Token.{Token, word, closing, comma, end, tokens}
 use Rattle.def_text.specs.Letter.{Letter, letter_tree}
 use Rattle.def_text.specs.Refusal.{MOST_BYTES, MOST_WRITTEN_DEPTH, NoneDeep, TextReads}

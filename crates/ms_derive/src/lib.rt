@@ -3,7 +3,7 @@
 
 pub use extended::{Extended, Version, extended_of, read_extended};
 pub use hmac::hmac_sha512;
-pub use steps::{Node, child, descendant};
+pub use steps::{Node, child, compressed, descendant};
 
 mod extended;
 mod hmac;

@@ -32,7 +32,7 @@ pub struct Node {
 }
 
 /// The bytes of a point: 02 or 03 by the parity of y, and x.
-fn compressed(point: Affine) -> [u8; 33]
+pub fn compressed(point: Affine) -> [u8; 33]
     ensures { result ≡ the_compressed (point_at point) }
 {
     let mut bytes = [2 + (point.y.first % 2) as u8; 33];

@@ -164,11 +164,11 @@ module _ (text : Bytes) (at : ℕ) (spot : Spot) (level : ℕ) (seen : Seen) (ps
 -- ---- places of what stands there
 
 pub key_after : (text : Bytes) (at : ℕ) (spot : Spot) (level : ℕ) (seen : Seen) (e : OwnExpression) (end : ℕ) → IsNext text at spot level seen (next.Key e end)
-    → IsPlace text end × at < end
+    → IsPlace text end × at < end × (e.at ≡ at)
 key_after text at spot level seen e end h = go (takes_key spot) h
   where
-    go : (t : Bool) → IsNextBy t text at spot level seen (next.Key e end) → IsPlace text end × at < end
-    go true k = (k.1, k.2)
+    go : (t : Bool) → IsNextBy t text at spot level seen (next.Key e end) → IsPlace text end × at < end × (e.at ≡ at)
+    go true k = (k.1, k.2, k.3)
     go false k = absurd k
 
 pub token_after : (text : Bytes) (at : ℕ) (spot : Spot) (level : ℕ) (seen : Seen) (end : ℕ) → IsNext text at spot level seen (next.Token end)

@@ -97,6 +97,7 @@ pub fn read_key(
     requires { IsPlace text.now at }
     ensures reads { Reads text.now at (the_read_key (seen_at seen) (tokens_at text.now at)) expression_at result }
     ensures some { IfOk result (λ read. at < read.1) }
+    ensures place { IfOk result (λ read. read.0.at ≡ at) }
 {
     let (origin, place) = read_origin(alloc, text, at)?;
     let (named, end) = read_named(alloc, seen, text, place)?;

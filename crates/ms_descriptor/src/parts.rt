@@ -6,7 +6,7 @@ ghost use Rattle.std.specs.Str.{bytes_eq};
 ghost use Rattle.def_descriptor.specs.Token.{starts};
 ghost use Rattle.def_descriptor.specs.Parts.{OTHER_NAMES, other_name as the_other_name, read_form as the_read_form, read_head as the_read_head, read_wsh as the_read_wsh, read_body as the_read_body, read_parts as the_read_parts};
 ghost use Rattle.ms_paths.specs.Places.{IsPlace, tokens_at, Says, Reads};
-ghost use Rattle.ms_descriptor.specs.Bodies.{FormOf, head_at, found_at, parts_at};
+ghost use Rattle.ms_descriptor.specs.Bodies.{FormOf, head_at, found_at, parts_at, FoundWithin};
 
 use crate::expression::{Expression, Seen};
 use crate::keys::read_key;
@@ -25,6 +25,17 @@ pub enum Body {
     Sorted(u32, Vec<Piece>),
     /// A single key.
     Single(Expression),
+}
+
+/// A descriptor.
+#[derive(Drop)]
+pub struct Descriptor {
+    /// Whether it stands in `sh(..)`.
+    pub under: bool,
+    /// What stands in it.
+    pub body: Body,
+    /// The length of its text without its checksum.
+    pub length: usize,
 }
 
 /// A body as far as it was read.
@@ -136,7 +147,7 @@ fn read_head(text: &[u8]) -> Result<(Head, usize), DescriptorFault>
 fn read_wsh(alloc: Global, text: &[u8], at: usize) -> Result<Found, DescriptorFault>
     requires { IsPlace text.now at }
     ensures wsh { IfOk result (λ found. the_read_wsh (suc (length text.now)) (tokens_at text.now at) ≡ found_at text.now found) }
-    ensures place { IfOk result (λ found. IsPlace text.now found.rest) }
+    ensures within { IfOk result (FoundWithin text.now) }
     ensures memory { IfErr result (λ why. why ≡ DescriptorFault.Memory) }
 {
     let name = token_at(text, at);
@@ -160,7 +171,7 @@ fn read_wsh(alloc: Global, text: &[u8], at: usize) -> Result<Found, DescriptorFa
 fn read_body(alloc: Global, text: &[u8], at: usize, form: Form) -> Result<Found, DescriptorFault>
     requires { IsPlace text.now at }
     ensures body { Says (the_read_body (suc (length text.now)) form (tokens_at text.now at)) (found_at text.now) result }
-    ensures place { IfOk result (λ found. IsPlace text.now found.rest) }
+    ensures within { IfOk result (FoundWithin text.now) }
 {
     match form {
         Form::Wsh => read_wsh(alloc, text, at),
@@ -179,7 +190,7 @@ fn read_body(alloc: Global, text: &[u8], at: usize, form: Form) -> Result<Found,
 pub fn read_parts(alloc: Global, text: &[u8]) -> Result<(bool, Found), DescriptorFault>
     requires { IsPlace text.now 0 }
     ensures parts { Says (the_read_parts text.now) (parts_at text.now) result }
-    ensures place { IfOk result (λ parts. IsPlace text.now parts.1.rest) }
+    ensures within { IfOk result (λ parts. FoundWithin text.now parts.1) }
 {
     let (head, at) = read_head(text)?;
     let found = read_body(alloc, text, at, head.form)?;

@@ -6,7 +6,7 @@ ghost use Rattle.def_descriptor.specs.Token.{is_word as the_is_word};
 ghost use Rattle.def_descriptor.specs.Pieces.{follows_key, opened as the_opened, ends_at as the_ends_at, gather as the_gather};
 ghost use Rattle.ms_paths.specs.Places.{IsPlace, tokens_at};
 ghost use Rattle.ms_descriptor.specs.Expressions.{seen_at, spot_at};
-ghost use Rattle.ms_descriptor.specs.Miniscripts.{gathered_at, IsNext, IsNextToken, IsNextKey};
+ghost use Rattle.ms_descriptor.specs.Miniscripts.{AreWithin, gathered_at, IsNext, IsNextToken, IsNextKey};
 
 use crate::expression::{Expression, Seen};
 use crate::keys::read_key;
@@ -133,6 +133,7 @@ pub fn gather(
     requires { IsPlace text.now at }
     ensures pieces { IfOk result (λ all. the_gather (suc (length text.now)) (spot_at spot) 0 NOTHING_SEEN (tokens_at text.now at) ≡ gathered_at text.now all) }
     ensures place { IfOk result (λ all. IsPlace text.now all.rest) }
+    ensures within { IfOk result (λ all. AreWithin text.now all.pieces.items) }
     ensures memory { IfErr result (λ why. why ≡ DescriptorFault.Memory) }
 {
     let mut pieces = Vec::new(alloc);

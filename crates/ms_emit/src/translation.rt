@@ -2,7 +2,8 @@
 ghost use Rattle.std.specs.Prelude.{◌≡◌, ◌<◌, ◌++◌, [], ◌∷◌, length, IfOk, OnOk, All};
 ghost use Rattle.def_emit.specs.Emit.{push_number as the_number, script_of, emit as the_emit, emit_added as the_added};
 ghost use Rattle.def_script.specs.Spell.{IsShort};
-ghost use Rattle.def_tree.specs.Range.{MOST_MEASURE, TEN_DIGITS, IsInRange};
+ghost use Rattle.def_tree.specs.Range.{TEN_DIGITS};
+ghost use Rattle.def_tree.specs.InRange.{MOST_MEASURE, IsInRange};
 ghost use Rattle.def_tree.specs.Tree as tree;
 ghost use Rattle.ms_hash.specs.Value.{kind_of, bytes_of};
 ghost use Rattle.ms_tree.specs.Shape.{shape, shapes, leaf_shape};
@@ -12,7 +13,7 @@ use ms_extent::{
 };
 use ms_hash::hash160;
 use ms_script::{Blob, Op, Script, encode};
-use ms_tree::{HashVal, Key, Leaf, Tree, Two, View, Wrapper, fragment_rows};
+use ms_tree::{HashValue, Key, Leaf, Tree, Two, View, Wrapper, fragment_rows};
 use std::alloc::{AllocError, Global};
 
 /// The Script of a tree (BIP 379, translation table).
@@ -75,7 +76,7 @@ fn add_leaf(script: &mut Script, leaf: Leaf) -> Result<(), AllocError>
     Ok(())
 }
 
-fn add_hash(script: &mut Script, value: &HashVal) -> Result<(), AllocError>
+fn add_hash(script: &mut Script, value: &HashValue) -> Result<(), AllocError>
     ensures { OnOk result (script.new ≡ script.old ++ the_emit (tree.hash (kind_of value.now) (bytes_of value.now))) }
 {
     fragment_rows!(hash_arms!(script, value));

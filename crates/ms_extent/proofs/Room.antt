@@ -10,8 +10,7 @@ use Rattle.def_script.specs.Verify.{verify_form, verified_op, verified}
 use Rattle.def_tree.specs.declared.Two.TheVariants as kind
 use Rattle.def_tree.specs.declared.Wrapper.TheVariants as wrapper
 use Rattle.def_tree.specs.Tree.{Tree, Trees, just_0, just_1, pk_k, pk_h, older, after, hash, and_or, two, thresh, multi, wrap, none, more}
-use Rattle.def_tree.specs.Size.{measure, measure_of}
-use Rattle.def_tree.specs.Range.{IsInRange}
+use Rattle.def_tree.specs.InRange.{measure, measure_of, IsInRange}
 use Rattle.def_emit.specs.Emit.{emit, emit_sum, emit_added, script_of}
 use Rattle.def_emit.proofs.Short.{short-emit}
 use Rattle.ms_extent.specs.declared.extent.Extent.{Extent}

@@ -58,7 +58,7 @@ macro_rules! hash_arms {
         $($others:tt)*
     ) => {
         match $value {
-            $(HashVal::$variant(bytes) => {
+            $(HashValue::$variant(bytes) => {
                 opcodes!($out, $before);
                 step!($out.push(bytes));
                 opcodes!($out, $behind);

@@ -4,8 +4,8 @@
 ghost use Rattle.std.specs.Prelude.{◌≡◌, ◌<◌, ◌≤◌, ◌*◌, length, map, All};
 ghost use Rattle.def_emit.specs.Emit.{push_number as the_number, emit as the_emit, emit_sum as the_sum, emit_added as the_added, script_of};
 ghost use Rattle.def_script.specs.Instruction.{opcode_count as the_opcode_count, push};
-ghost use Rattle.def_tree.specs.Range.{MOST_MEASURE, TEN_DIGITS, IsInRange};
-ghost use Rattle.def_tree.specs.Size.{measure};
+ghost use Rattle.def_tree.specs.Range.{TEN_DIGITS};
+ghost use Rattle.def_tree.specs.InRange.{MOST_MEASURE, IsInRange, measure};
 ghost use Rattle.def_tree.specs.Tree as tree;
 ghost use Rattle.ms_hash.specs.Value.{kind_of, bytes_of};
 ghost use Rattle.ms_tree.specs.Shape.{shape, shapes, leaf_shape};
@@ -17,7 +17,7 @@ use crate::arms::{
 use crate::extent::Extent;
 use crate::numbers::number_bytes;
 use ms_script::Op;
-use ms_tree::{HashVal, Key, Leaf, Tree, Two, View, Wrapper, fragment_rows};
+use ms_tree::{HashValue, Key, Leaf, Tree, Two, View, Wrapper, fragment_rows};
 
 /// The length in bytes of the encoded Script of a tree.
 pub fn script_len(tree: &Tree<'_>) -> u64
@@ -98,7 +98,7 @@ fn add_leaf(extent: &mut Extent, leaf: Leaf)
     fragment_rows!(leaf_arms!(extent, leaf));
 }
 
-fn add_hash(extent: &mut Extent, value: &HashVal)
+fn add_hash(extent: &mut Extent, value: &HashValue)
     ensures { extent.new ≡ extended_by extent.old (the_emit (tree.hash (kind_of value.now) (bytes_of value.now))) }
 {
     fragment_rows!(hash_arms!(extent, value));

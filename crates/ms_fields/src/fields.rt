@@ -248,8 +248,16 @@ impl<'a> Fields<'a> {
     pub fn assets(&self, alloc: Global, locks: Locks) -> Result<Assets, AllocError>
         ensures { IfOk result (λ made. made ≡ record { locks = locks; pairs = self.now.pairs; preimages = self.now.preimages }) }
     {
-        let mut assets = Assets::new(alloc, locks);
+        let mut assets = self.unsigned_assets(alloc, locks)?;
         add_pairs(&mut assets, &self.pairs)?;
+        Ok(assets)
+    }
+
+    /// The assets that the preimages alone are, under these locks. Refuses where they are no assets, and for want of memory.
+    pub fn unsigned_assets(&self, alloc: Global, locks: Locks) -> Result<Assets, AllocError>
+        ensures { IfOk result (λ made. made ≡ record { locks = locks; pairs = []; preimages = self.now.preimages }) }
+    {
+        let mut assets = Assets::new(alloc, locks);
         add_preimages(&mut assets, &self.preimages)?;
         Ok(assets)
     }

@@ -1,1 +1,2 @@
 pub mod Witnessed
+pub mod Judged

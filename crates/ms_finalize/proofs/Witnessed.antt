@@ -4,7 +4,7 @@ use Rattle.std.specs.Prelude.{IfSome}
 use Rattle.def_script.specs.Bytes.{Bytes}
 use Rattle.def_script.specs.Witness.{witness_text, weight}
 use Rattle.def_tree.specs.Tree.{Tree}
-use Rattle.def_tree.specs.Range.{IsInRange}
+use Rattle.def_tree.specs.InRange.{IsInRange}
 use Rattle.def_emit.specs.Emit.{script_of}
 use Rattle.def_assets.specs.Assets.{Assets}
 use Rattle.def_files.specs.Laws.{AreFewAssets}

@@ -5,15 +5,15 @@ ghost use Rattle.def_choice.specs.Strict.{strict};
 ghost use Rattle.def_emit.specs.Emit.{script_of};
 ghost use Rattle.def_promises.specs.Accepted.{Unchangeable};
 ghost use Rattle.def_sane.specs.Unfit.{IsSane};
-ghost use Rattle.def_script.specs.Witness.{witness_text};
-ghost use Rattle.def_tree.specs.Range.{IsInRange};
+ghost use Rattle.def_script.specs.Witness.{items_text, witness_text};
+ghost use Rattle.def_tree.specs.InRange.{IsInRange};
 ghost use Rattle.ms_finalize.specs.Witnesses.{IsReplayed};
 ghost use Rattle.ms_tree.specs.Shape.{shape};
 
 use ms_bytes::{Blob, Stack};
 use ms_held::Assets;
 use ms_tree::Tree;
-use ms_witness::witness_bytes;
+use ms_witness::{stack_bytes, witness_bytes};
 use std::alloc::{AllocError, Global};
 
 /// The final witness of an input: the strict satisfaction of its miniscript, bottom first, and its witness script, which is the
@@ -38,4 +38,22 @@ pub fn final_witness(
 {
     assets.are_assets();
     witness_bytes(alloc, stack, script)
+}
+
+/// The final witness of an input that spends the hash of a public key: the strict satisfaction of its miniscript alone, which is a
+/// signature and the key. Nobody can change it. Refuses for want of memory alone.
+pub fn key_witness(
+    alloc: Global,
+    tree: &Tree<'_>,
+    assets: &Assets,
+    stack: &Stack,
+) -> Result<Blob, AllocError>
+    requires in_range { IsInRange (shape tree.now) }
+    requires sane { IsSane (shape tree.now) }
+    requires chosen { strict (shape tree.now) assets.now ≡ Some stack.now }
+    ensures witness { IfOk result (λ witness. witness ≡ items_text stack.now) }
+    ensures unchangeable { Unchangeable (shape tree.now) assets.now stack.now }
+{
+    assets.are_assets();
+    stack_bytes(alloc, stack)
 }

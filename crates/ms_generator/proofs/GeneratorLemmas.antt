@@ -9,7 +9,8 @@ use Rattle.std.proofs.lemmas.List.{length-replicate}
 use Rattle.std.proofs.lemmas.List.FromFn.{length-map-range_with_len, get_or-map-range_with_len, map-range_with_len_more}
 use Rattle.std.proofs.lemmas.Slice.Eq.{bytes_eq-Decides}
 use Rattle.def_script.specs.Bytes.{Bytes}
-use Rattle.def_tree.specs.Range.{IsKey, IsInRange}
+use Rattle.def_tree.specs.Range.{IsKey}
+use Rattle.def_tree.specs.InRange.{IsInRange}
 use Rattle.def_tree.specs.Tree.{Tree}
 use Rattle.def_text.specs.declared.TextFault.{TextFault}
 use Rattle.def_text.specs.Refusal.{TextReads, TextRefusal}

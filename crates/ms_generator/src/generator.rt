@@ -6,7 +6,7 @@ ghost use Rattle.def_choice.specs.Strict.{strict as the_strict};
 ghost use Rattle.def_sane.specs.declared.Rules.TheVariants.{Consensus};
 ghost use Rattle.def_sane.specs.Unfit.{IsSaneUnder, IsValidUnder};
 ghost use Rattle.def_satisfaction.specs.Satisfaction.{Sat};
-ghost use Rattle.def_tree.specs.Range.{IsInRange};
+ghost use Rattle.def_tree.specs.InRange.{IsInRange};
 ghost use Rattle.ms_held.specs.Adding.{Answers as Adds};
 ghost use Rattle.ms_sane.specs.Same.{IsSame};
 ghost use Rattle.ms_tree.specs.Shape.{shape};

@@ -4,13 +4,13 @@ use Rattle.std.specs.List.{AllByRecursion, IsDistinct}
 use Rattle.std.specs.Str.{bytes_eq}
 use Rattle.std.proofs.lemmas.Bool.{and_parts, or_parts, cases_Bool, eqb-true, false_from_ne_true, false≢true}
 use Rattle.std.proofs.lemmas.Slice.Eq.{bytes_eq-Decides}
-use Rattle.std.proofs.lemmas.List.Elements.{All-from_recursion, recursion_from_All}
+use Rattle.std.proofs.lemmas.List.Elements.{All-from_recursion, recursion_from_All, All-filter}
 use Rattle.def_script.specs.Bytes.{Bytes, IsBytes}
 use Rattle.def_script.specs.Key.{is_key}
 use Rattle.def_script.specs.Sizes.{SizeReading, size_bytes, read_size}
 use Rattle.def_script.proofs.Sizing.{size_has_one_spelling}
 use Rattle.def_tree.specs.Range.{IsKey}
-use Rattle.def_assets.specs.Assets.{IsSignature, IsPreimage, AreAssets, same_key}
+use Rattle.def_assets.specs.Assets.{Assets, IsSignature, IsPreimage, AreAssets, same_key, same_pair}
 use Rattle.def_assets.proofs.Distinct.{distinct_pairs}
 use Rattle.def_psbt.specs.declared.PsbtVersion.{PsbtVersion}
 use Rattle.def_psbt.specs.Map.{Pair, Map, type_of, data_of, data_read}
@@ -18,7 +18,10 @@ use Rattle.def_psbt.specs.Forms.{is_signature}
 use Rattle.def_psbt.specs.Listed.{Form, stands, passes, input_form, shape_fault, pair_fault}
 use Rattle.def_psbt.specs.Laws.{IsSoundMap}
 use Rattle.def_spend.specs.Fields.{PARTIAL_SIG, BIP32_DERIVATION, has_type, is_signed, signatures_in, has_key, keys_in, is_preimage_pair, preimages_in}
-use Rattle.def_spend.specs.Input.{Spend, assets_of}
+use Rattle.def_spend.specs.declared.Verification.{Verification}
+use Rattle.def_spend.specs.declared.Verification.TheVariants.{Verified, Unverified}
+use Rattle.def_spend.specs.Input.{Spend, locks_of}
+use Rattle.def_spend.specs.Good.{word_of, is_good, counted_by, assets_of}
 use Rattle.ms_given_laws.specs.Given.{IsMapOfBytes}
 use Rattle.ms_given_laws.proofs.BytesOf.{dropped}
 use Rattle.ms_given_laws.proofs.Later.{IsPairOfBytes}
@@ -144,8 +147,12 @@ pub record HasLocks (spend : Spend) : Type 0 where
   pub sequence : spend.input.sequence < 2 ^ 32
   pub lock_time : spend.transaction.lock_time < 2 ^ 32
 
-pub assets_are : (version : PsbtVersion) (spend : Spend) → HasLocks spend → IsSoundMap (input_form version) [] spend.fields → IsMapOfBytes spend.fields → AreAssets (assets_of spend)
-assets_are version spend locks sound fits =
+-- those in which every signature counts
+abbrev all_assets : Spend → Assets
+all_assets spend = record { locks = locks_of spend; pairs = signatures_in spend.fields; preimages = preimages_in spend.fields }
+
+all_are : (version : PsbtVersion) (spend : Spend) → HasLocks spend → IsSoundMap (input_form version) [] spend.fields → IsMapOfBytes spend.fields → AreAssets (all_assets spend)
+all_are version spend locks sound fits =
     let all = recursion_from_All IsPairOfBytes spend.fields fits in
     let forms = shapes (input_form version) [] spend.fields sound in
     record {
@@ -172,3 +179,40 @@ assets_are version spend locks sound fits =
         → AllByRecursion (λ pair. IsPairOfBytes pair × HasShape (input_form version) pair) fields
     both_hold [] p q = tt
     both_hold (pair ∷ fields) p q = ((p.0, q.0), both_hold fields p.1 q.1)
+
+-- some of the pairs
+differ_from_some : (test : Bytes × Bytes → Bool) (first : Bytes × Bytes) (pairs : List (Bytes × Bytes)) → AllByRecursion (λ other. same_pair first other ≡ false) pairs
+    → AllByRecursion (λ other. same_pair first other ≡ false) (filter test pairs)
+differ_from_some test first [] h = tt
+differ_from_some test first (pair ∷ pairs) h =
+    let rest = differ_from_some test first pairs h.1 in
+    elim (cases_Bool (test pair)) [ inl e ↦ rw e (h.0, rest) | inr e ↦ rw e rest ]
+
+some_distinct : (test : Bytes × Bytes → Bool) (pairs : List (Bytes × Bytes)) → IsDistinct same_pair pairs → IsDistinct same_pair (filter test pairs)
+unfolding IsDistinct
+some_distinct test [] h = tt
+some_distinct test (pair ∷ pairs) h =
+    let rest = some_distinct test pairs h.1 in
+    elim (cases_Bool (test pair)) [ inl e ↦ rw e (differ_from_some test pair pairs h.0, rest) | inr e ↦ rw e rest ]
+
+-- the assets with some of the pairs
+pub some_are : (test : Bytes × Bytes → Bool) (assets : Assets) → AreAssets assets → AreAssets (record assets { pairs = filter test assets.pairs })
+some_are test assets are = record {
+  keys = All-filter test (λ pair. IsKey pair.0) assets.pairs are.keys;
+  signatures = All-filter test (λ pair. IsSignature pair.1) assets.pairs are.signatures;
+  distinct = some_distinct test assets.pairs are.distinct;
+  preimages = are.preimages;
+  version = are.version;
+  sequence = are.sequence;
+  locktime = are.locktime;
+}
+
+pub assets_are : (version : PsbtVersion) (spend : Spend) → HasLocks spend → IsSoundMap (input_form version) [] spend.fields → IsMapOfBytes spend.fields → AreAssets (assets_of spend)
+assets_are version spend locks sound fits = go spend.verification
+  where
+    all : AreAssets (all_assets spend)
+    all = all_are version spend locks sound fits
+
+    go : (verification : Verification) → AreAssets (record (all_assets spend) { pairs = counted_by verification spend })
+    go Verified = some_are (λ pair. is_good (word_of spend pair)) (all_assets spend) all
+    go Unverified = all

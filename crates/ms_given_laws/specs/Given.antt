@@ -8,8 +8,10 @@ use Rattle.def_psbt.specs.Map.{Map, Psbt}
 use Rattle.def_psbt.specs.Source.{psbt_of}
 use Rattle.def_psbt.specs.Laws.{IsSound}
 use Rattle.def_spend.specs.Fields.{keys_in}
-use Rattle.def_spend.specs.Input.{Spend, spends_of, assets_of}
+use Rattle.def_spend.specs.declared.Verification.{Verification}
+use Rattle.def_spend.specs.Input.{Spend, spends_of}
 use Rattle.def_spend.specs.Reading.{Input, AreInputs}
+use Rattle.def_spend.specs.Good.{assets_of}
 
 -- ---- of each
 
@@ -17,9 +19,10 @@ use Rattle.def_spend.specs.Reading.{Input, AreInputs}
 abbrev pub OfEachGiven : (Psbt → Type 0) → Type 0
 OfEachGiven Holds = (source : Bytes) (psbt : Psbt) → IsBytes source → psbt_of source ≡ Ok psbt → Holds psbt
 
--- of every such PSBT with its inputs, each read
+-- of every such PSBT with its inputs, each read, whichever of their signatures count
 abbrev pub OfEachPsbt : (Psbt → List Input → Type 0) → Type 0
-OfEachPsbt Holds = OfEachGiven (λ psbt. (inputs : List Input) → AreInputs psbt inputs → Holds psbt inputs)
+OfEachPsbt Holds =
+    OfEachGiven (λ psbt. (verification : Verification) (inputs : List Input) → AreInputs verification psbt inputs → Holds psbt inputs)
 
 -- of each input of every such PSBT
 abbrev pub OfEachInput : (Input → Type 0) → Type 0
@@ -27,7 +30,7 @@ OfEachInput Holds = OfEachPsbt (λ psbt inputs. All Holds inputs)
 
 -- of each place of an input, with its map, in every such PSBT
 abbrev pub OfEachSpend : (Spend → Type 0) → Type 0
-OfEachSpend Holds = OfEachGiven (λ psbt. All Holds (spends_of psbt))
+OfEachSpend Holds = OfEachGiven (λ psbt. (verification : Verification) → All Holds (spends_of verification psbt))
 
 -- ---- what it consists of
 

@@ -4,7 +4,7 @@ ghost use Rattle.std.specs.Prelude.{◌≡◌};
 ghost use Rattle.def_hash.specs.Hash.{sha256, hash160, hash256, digest_of};
 ghost use Rattle.ms_hash.specs.Value.{kind_of, bytes_of};
 
-use crate::{HashKind, HashVal, ripemd160};
+use crate::{HashKind, HashValue, ripemd160};
 use sha2::{Digest, Sha256};
 
 /// SHA-256 of a message of any length (FIPS 180-4). Takes no memory and never refuses.
@@ -31,14 +31,14 @@ pub fn hash160(message: &[u8]) -> [u8; 20]
 }
 
 /// The hash value of a message by the named function, one of the four of BIP 379. Takes no memory and never refuses.
-pub fn hash_of(kind: HashKind, message: &[u8]) -> HashVal
+pub fn hash_of(kind: HashKind, message: &[u8]) -> HashValue
     ensures kind { kind_of result ≡ kind }
     ensures digest { bytes_of result ≡ digest_of kind message.now }
 {
     match kind {
-        HashKind::Sha256 => HashVal::Sha256(sha256(message)),
-        HashKind::Hash256 => HashVal::Hash256(hash256(message)),
-        HashKind::Ripemd160 => HashVal::Ripemd160(ripemd160(message)),
-        HashKind::Hash160 => HashVal::Hash160(hash160(message)),
+        HashKind::Sha256 => HashValue::Sha256(sha256(message)),
+        HashKind::Hash256 => HashValue::Hash256(hash256(message)),
+        HashKind::Ripemd160 => HashValue::Ripemd160(ripemd160(message)),
+        HashKind::Hash160 => HashValue::Hash160(hash160(message)),
     }
 }

@@ -6,7 +6,7 @@
 pub use def_hash::HashKind;
 pub use functions::{hash_of, hash160, hash256, sha256};
 pub use ripemd::ripemd160;
-pub use value::HashVal;
+pub use value::HashValue;
 
 mod functions;
 mod ripemd;

@@ -8,7 +8,7 @@ use crate::HashKind;
 
 /// A hash value, beside the function that it is of. Contracts see it through `kind_of` and `bytes_of`.
 #[derive(Clone, Copy, Debug, PartialEq, Eq)]
-pub enum HashVal {
+pub enum HashValue {
     /// The 32 bytes of a SHA-256.
     Sha256([u8; 32]),
     /// The 32 bytes of a SHA-256 of a SHA-256.
@@ -19,16 +19,16 @@ pub enum HashVal {
     Hash160([u8; 20]),
 }
 
-impl HashVal {
+impl HashValue {
     /// The function that the value is of.
     pub fn kind(&self) -> HashKind
         ensures { result ≡ kind_of self.now }
     {
         match self {
-            HashVal::Sha256(_) => HashKind::Sha256,
-            HashVal::Hash256(_) => HashKind::Hash256,
-            HashVal::Ripemd160(_) => HashKind::Ripemd160,
-            HashVal::Hash160(_) => HashKind::Hash160,
+            HashValue::Sha256(_) => HashKind::Sha256,
+            HashValue::Hash256(_) => HashKind::Hash256,
+            HashValue::Ripemd160(_) => HashKind::Ripemd160,
+            HashValue::Hash160(_) => HashKind::Hash160,
         }
     }
 
@@ -39,8 +39,8 @@ impl HashVal {
         ensures length { length result.now ≡ digest_length (kind_of self.now) }
     {
         match self {
-            HashVal::Sha256(bytes) | HashVal::Hash256(bytes) => bytes,
-            HashVal::Ripemd160(bytes) | HashVal::Hash160(bytes) => bytes,
+            HashValue::Sha256(bytes) | HashValue::Hash256(bytes) => bytes,
+            HashValue::Ripemd160(bytes) | HashValue::Hash160(bytes) => bytes,
         }
     }
 }

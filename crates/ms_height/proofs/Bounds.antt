@@ -6,8 +6,7 @@ use Rattle.def_tree.specs.declared.Two.TheVariants as kind
 use Rattle.def_tree.specs.declared.Wrapper.{Wrapper}
 use Rattle.def_tree.specs.declared.Wrapper.TheVariants as wrapper
 use Rattle.def_tree.specs.Tree.{Tree, Trees, just_0, just_1, pk_k, pk_h, older, after, hash, and_or, two, thresh, multi, wrap, none, more}
-use Rattle.def_tree.specs.Range.{IsInRange}
-use Rattle.def_tree.specs.Size.{measure, measure_of}
+use Rattle.def_tree.specs.InRange.{IsInRange, measure, measure_of}
 use Rattle.def_types.specs.Typed.{IsTyped, AreTyped}
 use Rattle.def_types.proofs.Facts.{typed-multi}
 use Rattle.def_height.specs.declared.Highest.{Highest}

@@ -1,8 +1,7 @@
 -- The children of a threshold: their room, and what they take.
 use Rattle.std.proofs.Common.{◌≡◌, ℕ, zero, suc, ◌+◌, ◌*◌, ◌-◌, ◌<◌, ◌≤◌, List, [], ◌∷◌, length, get_or, All, refl, sym, ap, subst, arith}
 use Rattle.def_tree.specs.Tree.{Trees, none, more}
-use Rattle.def_tree.specs.Range.{IsInRange}
-use Rattle.def_tree.specs.Size.{measure, measure_of}
+use Rattle.def_tree.specs.InRange.{IsInRange, measure, measure_of}
 use Rattle.def_types.specs.Typed.{IsTyped}
 use Rattle.def_height.specs.Scaffolding.Highest.{counted, highest_sat, highest_dsat, highest_parts}
 use Rattle.ms_tree.specs.declared.tree.Tree.{Tree}

@@ -3,7 +3,7 @@ use Rattle.std.proofs.Common.{◌≡◌, ℕ, zero, suc, ◌+◌, ◌-◌, ◌*�
 use Rattle.std.proofs.lemmas.Bool.Decides.{nat_tests}
 use Rattle.std.proofs.lemmas.Bool.{cases_lt}
 use Rattle.std.proofs.lemmas.List.{get_or-set_same, get_or-set_other, length-set}
-use Rattle.def_tree.specs.Range.{MOST_MEASURE}
+use Rattle.def_tree.specs.InRange.{MOST_MEASURE}
 use Rattle.ms_choice.specs.declared.slot.Slot.{Slot}
 use Rattle.ms_height.specs.Scaffolding.Kept.{blank}
 use Rattle.ms_height.specs.Scaffolding.Tops.{above, excess, reached, equal, IsCounted}

@@ -1,6 +1,6 @@
 //! The greatest choice of so many among the children of a threshold, from the last child to the first.
 ghost use Rattle.std.specs.Prelude.{◌≡◌, ℕ, ◌+◌, ◌-◌, ◌<◌, ◌≤◌, ◌^◌, [], List, Some, None, length};
-ghost use Rattle.def_tree.specs.Range.{MOST_MEASURE};
+ghost use Rattle.def_tree.specs.InRange.{MOST_MEASURE};
 ghost use Rattle.ms_height.specs.declared.highest.Heights as found;
 ghost use Rattle.ms_choice.specs.declared.slot.Slot as slot;
 ghost use Rattle.ms_height.specs.Scaffolding.Chosen.{stuck_by};

@@ -1,7 +1,6 @@
 //! How high satisfactions and dissatisfactions go, without memory.
 ghost use Rattle.std.specs.Prelude.{◌≡◌, ◌+◌, ◌*◌, ◌≤◌, length, All};
-ghost use Rattle.def_tree.specs.Range.{MOST_MEASURE, IsInRange};
-ghost use Rattle.def_tree.specs.Size.{measure_of};
+ghost use Rattle.def_tree.specs.InRange.{MOST_MEASURE, IsInRange, measure_of};
 ghost use Rattle.def_tree.specs.Tree as tree;
 ghost use Rattle.def_types.specs.Typed.{IsTyped};
 ghost use Rattle.ms_tree.specs.Shape.{shape, shapes, leaf_shape};

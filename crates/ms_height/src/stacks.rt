@@ -1,8 +1,7 @@
 //! The height of a tree.
 ghost use Rattle.std.specs.Prelude.{◌≡◌, ◌*◌, ◌≤◌, IsOk, vec_len};
-ghost use Rattle.def_tree.specs.Range.{IsInRange};
-ghost use Rattle.def_tree.specs.Size.{measure};
-ghost use Rattle.def_types.specs.Corr.{corr};
+ghost use Rattle.def_tree.specs.InRange.{IsInRange, measure};
+ghost use Rattle.def_types.specs.Correctness.{correctness_of};
 ghost use Rattle.def_height.specs.Height.{IsHeight};
 ghost use Rattle.def_height.specs.Scaffolding.Highest.{height_of_option, highest_sat};
 ghost use Rattle.ms_tree.specs.Shape.{shape};
@@ -17,7 +16,7 @@ use ms_work::Work;
 /// number of slots.
 pub fn height(tree: &Tree<'_>, work: &mut Work) -> u64
     requires in_range { IsInRange (shape tree.now) }
-    requires typed { IsOk (corr (shape tree.now)) }
+    requires typed { IsOk (correctness_of (shape tree.now)) }
     requires room { 4 * measure (shape tree.now) ≤ vec_len work.old.slots }
     ensures height { IsHeight (shape tree.now) result }
     ensures room { vec_len work.new.slots ≡ vec_len work.old.slots }
@@ -27,7 +26,7 @@ pub fn height(tree: &Tree<'_>, work: &mut Work) -> u64
 
 fn highest(tree: &Tree<'_>, work: &mut Work) -> u64
     requires in_range { IsInRange (shape tree.now) }
-    requires typed { IsOk (corr (shape tree.now)) }
+    requires typed { IsOk (correctness_of (shape tree.now)) }
     requires room { 4 * measure (shape tree.now) ≤ vec_len work.old.slots }
     ensures height { result ≡ height_of_option (highest_sat (shape tree.now)) }
     ensures room { vec_len work.new.slots ≡ vec_len work.old.slots }

@@ -1,6 +1,6 @@
 //! The greatest sum of at most so many of some numbers, which come one by one.
 ghost use Rattle.std.specs.Prelude.{◌≡◌, ℕ, ◌+◌, ◌-◌, ◌<◌, ◌≤◌, ◌^◌, [], ◌∷◌, List, length};
-ghost use Rattle.def_tree.specs.Range.{MOST_MEASURE};
+ghost use Rattle.def_tree.specs.InRange.{MOST_MEASURE};
 ghost use Rattle.ms_choice.specs.declared.slot.Slot as slot;
 ghost use Rattle.ms_height.specs.Scaffolding.Chosen.{top};
 ghost use Rattle.ms_height.specs.Scaffolding.Tops.{IsRising, IsCounted, IsTop};

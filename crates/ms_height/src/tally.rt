@@ -1,6 +1,6 @@
 //! The children of a threshold, counted.
 ghost use Rattle.std.specs.Prelude.{◌≡◌, ℕ, ◌+◌, ◌<◌, ◌≤◌, ◌⊎◌, List, length, get_or, IfSome};
-ghost use Rattle.def_tree.specs.Range.{MOST_MEASURE};
+ghost use Rattle.def_tree.specs.InRange.{MOST_MEASURE};
 ghost use Rattle.ms_height.specs.declared.highest.Heights as found;
 ghost use Rattle.ms_height.specs.Scaffolding.Kept.{heights_in};
 ghost use Rattle.ms_height.specs.Scaffolding.Tally.{Counts};

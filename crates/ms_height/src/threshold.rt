@@ -1,6 +1,6 @@
 //! How high so many of the children of a threshold go, satisfied with the others dissatisfied.
 ghost use Rattle.std.specs.Prelude.{◌≡◌, ℕ, ◌+◌, ◌*◌, ◌<◌, ◌≤◌, Some, All, length};
-ghost use Rattle.def_tree.specs.Range.{MOST_MEASURE};
+ghost use Rattle.def_tree.specs.InRange.{MOST_MEASURE};
 ghost use Rattle.ms_height.specs.Scaffolding.Chosen as model;
 ghost use Rattle.ms_height.specs.Scaffolding.Chosen.{bounded, free, stuck};
 ghost use Rattle.ms_height.specs.Scaffolding.Kept.{heights_in, IsFitting};

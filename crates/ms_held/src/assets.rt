@@ -12,7 +12,7 @@ ghost use Rattle.ms_held.specs.Adding.{size_stop as the_size_stop, sig_stop, ano
 use crate::preimage::Preimage;
 use crate::signatures::Signatures;
 use ms_bytes::is_signature_size;
-use ms_hash::HashVal;
+use ms_hash::HashValue;
 use ms_oracle::{Locks, SigPair, member};
 use ms_tree::Key;
 use std::alloc::{AllocError, AllocFailed, Global};
@@ -240,7 +240,7 @@ impl Assets {
 
     /// The known preimage of a hash value, its 32 bytes: the first in their order that hashes to it, or `None`
     /// where none does. Takes no memory.
-    pub fn preimage_of(&self, value: &HashVal) -> Option<&[u8]>
+    pub fn preimage_of(&self, value: &HashValue) -> Option<&[u8]>
         ensures { option_map (λ preimage. preimage.now) result ≡ known self.now (kind_of value.now) (bytes_of value.now) }
     {
         first_hashing_to(&self.preimages, value)
@@ -269,7 +269,7 @@ impl Assets {
 }
 
 /// The first preimage that hashes to a value.
-fn first_hashing_to<'a>(preimages: &'a [Preimage], value: &HashVal) -> Option<&'a [u8]>
+fn first_hashing_to<'a>(preimages: &'a [Preimage], value: &HashValue) -> Option<&'a [u8]>
     ensures { option_map (λ preimage. preimage.now) result ≡ find (λ preimage. bytes_eq (digest_of (kind_of value.now) preimage) (bytes_of value.now)) preimages.entry.now }
 {
     for preimage in preimages {

@@ -5,7 +5,7 @@ ghost use Rattle.def_hash.specs.Hash.{digest_of, sha256};
 ghost use Rattle.ms_held.specs.Digests.{HashesTo};
 ghost use Rattle.ms_hash.specs.Value.{kind_of, bytes_of};
 
-use ms_hash::{HashKind, HashVal, hash_of, ripemd160, sha256};
+use ms_hash::{HashKind, HashValue, hash_of, ripemd160, sha256};
 use std::cell::OnceCell;
 use std::marker::Model;
 
@@ -56,7 +56,7 @@ impl Preimage {
     }
 
     /// Whether it hashes to a value. It is hashed by the value's function at the first such question.
-    pub(crate) fn hashes_to(&self, value: &HashVal) -> bool
+    pub(crate) fn hashes_to(&self, value: &HashValue) -> bool
         ensures { result ≡ bytes_eq (digest_of (kind_of value.now) self.now) (bytes_of value.now) }
     {
         let kind = value.kind();
@@ -82,15 +82,15 @@ impl Preimage {
 
     /// The hash value of the bytes by the named function.
     #[tactic(auto, unfolding(def_hash::specs::Hash::hash256, def_hash::specs::Hash::hash160))]
-    fn value_by(&self, kind: HashKind) -> HashVal
+    fn value_by(&self, kind: HashKind) -> HashValue
         ensures kind { kind_of result ≡ kind }
         ensures digest { bytes_of result ≡ digest_of kind self.now }
     {
         match kind {
-            HashKind::Sha256 => HashVal::Sha256(sha256(&self.bytes)),
-            HashKind::Hash256 => HashVal::Hash256(sha256(&self.once())),
-            HashKind::Ripemd160 => HashVal::Ripemd160(ripemd160(&self.bytes)),
-            HashKind::Hash160 => HashVal::Hash160(ripemd160(&self.once())),
+            HashKind::Sha256 => HashValue::Sha256(sha256(&self.bytes)),
+            HashKind::Hash256 => HashValue::Hash256(sha256(&self.once())),
+            HashKind::Ripemd160 => HashValue::Ripemd160(ripemd160(&self.bytes)),
+            HashKind::Hash160 => HashValue::Hash160(ripemd160(&self.once())),
         }
     }
 
@@ -100,7 +100,7 @@ impl Preimage {
     {
         let cell = &self.sha256;
         let kept = cell.try_get_or_init(|| {
-            Kept::new(self.bytes, HashVal::Sha256(sha256(&self.bytes)))
+            Kept::new(self.bytes, HashValue::Sha256(sha256(&self.bytes)))
         });
         match kept.and_then(|kept| kept.sha256(&self.bytes)) {
             Some(digest) => digest,
@@ -113,7 +113,7 @@ impl Preimage {
 #[derive(Debug, Drop)]
 struct Kept {
     preimage: [u8; 32],
-    value: HashVal,
+    value: HashValue,
 }
 
 impl Model for Kept {
@@ -129,7 +129,7 @@ impl Model for Kept {
 
 impl Kept {
     /// A hash value and its preimage.
-    fn new(preimage: [u8; 32], value: HashVal) -> Kept
+    fn new(preimage: [u8; 32], value: HashValue) -> Kept
         requires { HashesTo preimage value }
     {
         Kept { preimage, value }
@@ -151,7 +151,7 @@ impl Kept {
         ensures { IfSome result (λ digest. digest ≡ sha256 preimage.now) }
     {
         match self.value {
-            HashVal::Sha256(digest) if self.preimage == *preimage => Some(digest),
+            HashValue::Sha256(digest) if self.preimage == *preimage => Some(digest),
             _ => None,
         }
     }

@@ -10,8 +10,8 @@ use Rattle.def_spend.specs.Fields.{REDEEM_SCRIPT, WITNESS_SCRIPT, field}
 use Rattle.def_spend.specs.Utxo.{Utxo}
 use Rattle.def_spend.specs.Utxo as utxo
 use Rattle.def_spend.specs.Input.{Spend}
-use Rattle.def_spend.specs.Kinds.{is_p2sh, p2sh_of, redeemed, program_in, program_of_utxo, is_script_hash, spent_utxo, spent_program}
-use Rattle.def_spend.specs.Reading.{has_final, script_for, script_of_program, script_with, open_script, script_code}
+use Rattle.def_spend.specs.Kinds.{is_p2sh, p2sh_of, redeemed, program_in, program_of_utxo, is_script_hash, is_key_hash, spent_utxo, spent_program}
+use Rattle.def_spend.specs.Reading.{has_final, script_for, key_hash_script, script_of_program, script_with, open_script, script_code}
 
 -- a state of which this isn't told
 abbrev pub IsEarly : State → Type 0
@@ -58,11 +58,12 @@ told_for program (Some script) = go (bytes_eq program (program_of script))
     go false = tt
 
 told_script : (program : Bytes) (o : Option Bytes) → IsTold (script_of_program program o)
-told_script program o = go (is_script_hash program)
+told_script program o = go (is_script_hash program) (is_key_hash program)
   where
-    go : (b : Bool) → IsTold (if b then script_for program o else Err state.OtherOutput)
-    go true = told_for program o
-    go false = tt
+    go : (b k : Bool) → IsTold (if b then script_for program o else if k then Ok (key_hash_script program) else Err state.OtherOutput)
+    go true k = told_for program o
+    go false true = tt
+    go false false = tt
 
 told_with : (r : Result Bytes State) (o : Option Bytes) → IsTold r → IsTold (script_with r o)
 told_with (Ok program) o told = told_script program o

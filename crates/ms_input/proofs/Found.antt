@@ -5,9 +5,10 @@ use Rattle.std.specs.Option.{option_map, unwrap_or}
 use Rattle.def_script.specs.Bytes.{Bytes}
 use Rattle.def_script.specs.Witness.{weight}
 use Rattle.def_tree.specs.Tree.{Tree}
-use Rattle.def_tree.specs.Range.{IsInRange}
+use Rattle.def_tree.specs.InRange.{IsInRange}
 use Rattle.def_emit.specs.Emit.{script_of}
 use Rattle.def_assets.specs.Assets.{Assets}
+use Rattle.def_curve.specs.declared.Judgement.{Judgement}
 use Rattle.def_machine.specs.declared.Locks.{Locks}
 use Rattle.def_sane.specs.declared.Unfit.{Unfit}
 use Rattle.def_sane.specs.Unfit.{first_unfit, IsSane}
@@ -17,7 +18,8 @@ use Rattle.def_spend.specs.declared.State.{State}
 use Rattle.def_spend.specs.declared.State.TheVariants as state
 use Rattle.def_spend.specs.Fields.{keys_in}
 use Rattle.def_spend.specs.Hashes.{script_or_none, script_in}
-use Rattle.def_spend.specs.Input.{Spend, assets_of}
+use Rattle.def_spend.specs.Input.{Spend}
+use Rattle.def_spend.specs.Good.{assets_of}
 use Rattle.def_spend.specs.Kinds.{kind_of}
 use Rattle.def_spend.specs.Reading.{Input, script_code, IsReadAs, ReadsAs, HasReading}
 use Rattle.def_promises.specs.Accepted.{Unchangeable}
@@ -25,7 +27,8 @@ use Rattle.def_spend.specs.Fields.{signatures_in, asked_type}
 use Rattle.def_spend.specs.States.{is_sighash_wrong, are_too_many, choice_state, held_state, unless_unfit, tree_state, state_by, state_of, is_ready, choice_of, stack_of}
 use Rattle.def_spend.specs.Utxo.{utxo_of, amount_of}
 use Rattle.ms_fields.specs.Held.{Held}
-use Rattle.ms_finalize.specs.Settled.{IsOf, input_of, assets_in, chosen_in}
+use Rattle.ms_finalize.specs.declared.judging.Judging.{Judging}
+use Rattle.ms_finalize.specs.Settled.{IsOf, input_of, assets_in, words_in, chosen_in}
 use Rattle.ms_tree.specs.declared.tree.Tree.{Tree as CodeTree}
 use Rattle.ms_tree.specs.Shape.{shape}
 use Rattle.ms_utxo.specs.declared.amount.Amount.{Amount}
@@ -61,6 +64,20 @@ early_assets state.TooMany spend h = absurd h
 early_assets state.Unsatisfied spend h = absurd h
 early_assets state.Ready spend h = absurd h
 
+pub early_words : (told : State) (spend : Spend) → IsEarly told → words_in told spend ≡ None
+early_words state.Final spend h = refl
+early_words state.NoUtxo spend h = refl
+early_words state.WrongUtxo spend h = refl
+early_words state.OtherOutput spend h = refl
+early_words state.NoScript spend h = refl
+early_words state.WrongScript spend h = refl
+early_words state.NoReading spend h = absurd h
+early_words (state.Unfit unfit) spend h = absurd h
+early_words state.WrongSighash spend h = absurd h
+early_words state.TooMany spend h = absurd h
+early_words state.Unsatisfied spend h = absurd h
+early_words state.Ready spend h = absurd h
+
 early_stack : (told : State) (input : Input) → IsEarly told → chosen_in told input ≡ None
 early_stack state.Final input h = refl
 early_stack state.NoUtxo input h = refl
@@ -89,21 +106,26 @@ found_early spend amount told amount_is is =
       light = tt;
     }
 
+-- and no signature is judged
+pub early_judged : (spend : Spend) (told : State) (words : Option (List Judgement)) → words ≡ None → script_code spend ≡ Err told → words ≡ words_in told spend
+early_judged spend told words none is = none ∙ sym (early_words told spend (subst IsTold is (is_told spend)))
+
 -- ---- a script that is read
 
 -- what is told of an input whose Script is known
-pub record IsSettled (held : Held) (locks : Locks) (script : Bytes) (tree : Option Tree) (told : State) (assets : Option Assets) (stack : Option (List Bytes)) : Type 0 where
+pub record IsSettled (held : Held) (locks : Locks) (judging : Judging) (script : Bytes) (tree : Option Tree) (told : State) (assets : Option Assets) (stack : Option (List Bytes)) : Type 0 where
   pub reading : IsReadAs held.keys script tree
   pub in_range : IfSome tree IsInRange
-  pub state_is : (spend : Spend) → IsOf spend held locks → told ≡ tree_state tree spend
-  pub assets_are : (spend : Spend) → IsOf spend held locks → assets ≡ assets_in told spend
-  pub stack_is : (spend : Spend) → IsOf spend held locks → stack ≡ chosen_in told (input_of spend tree)
+  pub state_is : (spend : Spend) → IsOf spend held locks judging → told ≡ tree_state tree spend
+  pub assets_are : (spend : Spend) → IsOf spend held locks judging → assets ≡ assets_in told spend
+  pub stack_is : (spend : Spend) → IsOf spend held locks judging → stack ≡ chosen_in told (input_of spend tree)
   pub light : IfSome stack (λ items. weight items ≤ 2 ^ 40)
 
-pub found_settled : (spend : Spend) (amount : Amount) (held : Held) (locks : Locks) (script : Bytes) (tree : Option Tree) (told : State) (assets : Option Assets) (stack : Option (List Bytes)) →
-    HasAmount spend amount → script_code spend ≡ Ok script → IsOf spend held locks → IsSettled held locks script tree told assets stack →
+pub found_settled : (spend : Spend) (amount : Amount) (held : Held) (locks : Locks) (judging : Judging) (script : Bytes) (tree : Option Tree) (told : State)
+    (assets : Option Assets) (stack : Option (List Bytes)) →
+    HasAmount spend amount → script_code spend ≡ Ok script → IsOf spend held locks judging → IsSettled held locks judging script tree told assets stack →
     IsFound spend amount tree told assets stack
-found_settled spend amount held locks script tree told assets stack amount_is is of s = record {
+found_settled spend amount held locks judging script tree told assets stack amount_is is of s = record {
   amount_is = amount_is;
   reading = subst (λ (r : Result Bytes State). ReadsAs (keys_in spend.fields) r tree) (sym is)
       (subst (λ (h : Held). IsReadAs h.keys script tree) of.fields s.reading);
@@ -253,7 +275,7 @@ stack_told {amount} {told} {assets} {stack} input found =
     go true e = ready_choice input e
     go false e = refl
 
-same_assets : (o : Option Assets) (a b : Assets) → o ≡ Some a → o ≡ Some b → a ≡ b
+pub same_assets : (o : Option Assets) (a b : Assets) → o ≡ Some a → o ≡ Some b → a ≡ b
 same_assets o a b e f = cc
 
 -- what is made of the miniscript and the assets of an Unsatisfied input
@@ -266,7 +288,7 @@ told_plan {X} make {amount} {told} {some_assets} {stack} input own tree assets p
     ∙ ap (make tree) (same_assets some_assets assets (assets_of input.spend) assets_is (held_assets input found (subst IsLate (sym unmet) tt)))
 
 -- nobody can change it
-same_stack : (o : Option (List Bytes)) (a b : List Bytes) → o ≡ Some a → o ≡ Some b → a ≡ b
+pub same_stack : (o : Option (List Bytes)) (a b : List Bytes) → o ≡ Some a → o ≡ Some b → a ≡ b
 same_stack o a b e f = cc
 
 pub unchanged : {amount : Amount} {told : State} {some_assets : Option Assets} {some_stack : Option (List Bytes)} (input : Input) (tree : Tree) (assets : Assets) (stack : List Bytes) →
@@ -286,3 +308,8 @@ unchanged {amount} {told} {some_assets} {some_stack} input tree assets stack fou
 pub in_range_of : (o : Option CodeTree) → IfSome o (λ t. IsInRange (shape t)) → IfSome (option_map shape o) IsInRange
 in_range_of None h = tt
 in_range_of (Some t) h = h
+
+-- what is said of the signatures by the state that is kept
+pub words_told : {amount : Amount} {told : State} {assets : Option Assets} {stack : Option (List Bytes)} (input : Input) (words : Option (List Judgement)) →
+    IsFound input.spend amount input.tree told assets stack → words ≡ words_in told input.spend → words ≡ words_in (state_of input) input.spend
+words_told {amount} {told} {assets} {stack} input words found e = e ∙ ap (λ (x : State). words_in x input.spend) found.state_is

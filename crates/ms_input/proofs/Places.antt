@@ -4,13 +4,14 @@ use Rattle.std.specs.Option.{unwrap_or}
 use Rattle.def_machine.specs.declared.Locks.{Locks}
 use Rattle.def_psbt.specs.Transaction.{TransactionInput, Transaction}
 use Rattle.def_psbt.specs.Map.{Map, Psbt}
+use Rattle.def_spend.specs.declared.Verification.{Verification}
 use Rattle.def_spend.specs.Input.{Spend, spends_from, spends_of, locks_of}
 use Rattle.ms_fields.specs.Held.{Held, held_in}
 use Rattle.ms_input.specs.Seen.{nowhere, spend_at}
 use Rattle.ms_input.specs.Scaffolding.Kept.{IsAt}
 
-abbrev spend : Transaction → ℕ → TransactionInput → Map → Spend
-spend transaction number input fields = record { transaction = transaction; number = number; input = input; fields = fields }
+abbrev spend : Verification → Transaction → ℕ → TransactionInput → Map → Spend
+spend verification transaction number input fields = record { verification = verification; transaction = transaction; number = number; input = input; fields = fields }
 
 abbrev some : Spend → Option Spend
 some x = Some x
@@ -18,34 +19,36 @@ some x = Some x
 abbrev some_map : Map → Option Map
 some_map x = Some x
 
-from_number : (transaction : Transaction) (first : ℕ) (inputs : List TransactionInput) (maps : List Map) (k : ℕ) (input : TransactionInput) (fields : Map) →
-    slice_get inputs k ≡ Some input → slice_get maps k ≡ Some fields → slice_get (spends_from transaction first inputs maps) k ≡ some (spend transaction (first + k) input fields)
-from_number transaction first [] maps k input fields e f = absurd cc
-from_number transaction first (i ∷ inputs) [] k input fields e f = absurd cc
-from_number transaction first (i ∷ inputs) (m ∷ maps) zero input fields e f =
+from_number : (verification : Verification) (transaction : Transaction) (first : ℕ) (inputs : List TransactionInput) (maps : List Map) (k : ℕ) (input : TransactionInput) (fields : Map) →
+    slice_get inputs k ≡ Some input → slice_get maps k ≡ Some fields →
+    slice_get (spends_from verification transaction first inputs maps) k ≡ some (spend verification transaction (first + k) input fields)
+from_number verification transaction first [] maps k input fields e f = absurd cc
+from_number verification transaction first (i ∷ inputs) [] k input fields e f = absurd cc
+from_number verification transaction first (i ∷ inputs) (m ∷ maps) zero input fields e f =
     let same_input : i ≡ input = cc in
     let same_map : m ≡ fields = cc in
     let same_number : first ≡ first + 0 = omega arith in
-    ap (λ (n : ℕ). some (spend transaction n i m)) same_number
-    ∙ ap (λ (x : TransactionInput). some (spend transaction (first + 0) x m)) same_input
-    ∙ ap (λ (x : Map). some (spend transaction (first + 0) input x)) same_map
-from_number transaction first (i ∷ inputs) (m ∷ maps) (suc k) input fields e f =
+    ap (λ (n : ℕ). some (spend verification transaction n i m)) same_number
+    ∙ ap (λ (x : TransactionInput). some (spend verification transaction (first + 0) x m)) same_input
+    ∙ ap (λ (x : Map). some (spend verification transaction (first + 0) input x)) same_map
+from_number verification transaction first (i ∷ inputs) (m ∷ maps) (suc k) input fields e f =
     let same_number : first + 1 + k ≡ first + suc k = omega arith in
-    from_number transaction (first + 1) inputs maps k input fields e f
-    ∙ ap (λ (n : ℕ). some (spend transaction n input fields)) same_number
+    from_number verification transaction (first + 1) inputs maps k input fields e f
+    ∙ ap (λ (n : ℕ). some (spend verification transaction n input fields)) same_number
 
 -- the input with a number, by what the transaction says of it and by its map
-pub is_at : (psbt : Psbt) (number : ℕ) (input : TransactionInput) (fields : Map) (held : Held) →
+pub is_at : (verification : Verification) (psbt : Psbt) (number : ℕ) (input : TransactionInput) (fields : Map) (held : Held) →
     slice_get psbt.transaction.inputs number ≡ Some input → slice_get psbt.inputs number ≡ Some fields → held ≡ held_in fields →
-    IsAt psbt number (spend_at psbt number) input held
-is_at psbt number input fields held e f is =
+    IsAt verification psbt number (spend_at verification psbt number) input held
+is_at verification psbt number input fields held e f is =
     let zero_first : 0 + number ≡ number = omega arith in
-    let there : slice_get (spends_of psbt) number ≡ some (spend psbt.transaction number input fields) =
-    from_number psbt.transaction 0 psbt.transaction.inputs psbt.inputs number input fields e f
-    ∙ ap (λ (n : ℕ). some (spend psbt.transaction n input fields)) zero_first in
-    let at : spend_at psbt number ≡ spend psbt.transaction number input fields = ap (λ (o : Option Spend). unwrap_or o nowhere) there in
+    let there : slice_get (spends_of verification psbt) number ≡ some (spend verification psbt.transaction number input fields) =
+    from_number verification psbt.transaction 0 psbt.transaction.inputs psbt.inputs number input fields e f
+    ∙ ap (λ (n : ℕ). some (spend verification psbt.transaction n input fields)) zero_first in
+    let at : spend_at verification psbt number ≡ spend verification psbt.transaction number input fields = ap (λ (o : Option Spend). unwrap_or o nowhere) there in
     record {
       there = there ∙ ap some (sym at);
+      same_verification = ap (λ (s : Spend). s.verification) at;
       transaction = ap (λ (s : Spend). s.transaction) at;
       same_number = ap (λ (s : Spend). s.number) at;
       same_input = sym (ap (λ (s : Spend). s.input) at);

@@ -4,6 +4,8 @@ use Rattle.std.specs.Option.{option_map}
 use Rattle.std.specs.Coded.{Coded}
 use mir.Syntax.{static}
 use Rattle.def_psbt.specs.Map.{Psbt}
+use Rattle.def_spend.specs.declared.Verification.{Verification}
+use Rattle.def_spend.specs.declared.Verification.TheVariants.{Unverified}
 use Rattle.def_spend.specs.Input.{Spend, spends_of}
 use Rattle.def_spend.specs.Reading.{Input}
 use Rattle.ms_tree.specs.contracts.tree.Tree.{the_row}
@@ -26,6 +28,7 @@ input_seen seen = record { spend = seen.spend; tree = option_map shape seen.tree
 -- in place of an input that isn't there
 abbrev pub nowhere : Spend
 nowhere = record {
+  verification = Unverified;
   transaction = record { version = 0; inputs = []; outputs = []; lock_time = 0 };
   number = 0;
   input = record { outpoint = record { id = []; index = 0 }; script_sig = []; sequence = 0 };
@@ -33,5 +36,5 @@ nowhere = record {
 }
 
 -- the input of a PSBT with this number
-abbrev pub spend_at : Psbt → (number : ℕ) → Spend
-spend_at psbt number = unwrap_or (slice_get (spends_of psbt) number) nowhere
+abbrev pub spend_at : Verification → Psbt → (number : ℕ) → Spend
+spend_at verification psbt number = unwrap_or (slice_get (spends_of verification psbt) number) nowhere

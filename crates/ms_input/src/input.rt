@@ -1,22 +1,25 @@
 //! An input of a PSBT that was read.
 
-ghost use Rattle.std.specs.Prelude.{◌≡◌, ◌<◌, ◌≤◌, ◌^◌, [], Some, None, length, slice_get, if◌then◌else◌, All, IfOk, IfSome, option_map, unwrap_or};
+ghost use Rattle.std.specs.Prelude.{◌≡◌, ◌<◌, ◌≤◌, ◌^◌, true, [], Some, None, length, slice_get, if◌then◌else◌, All, IfOk, IfSome, option_map, unwrap_or};
 ghost use Rattle.def_script.specs.Witness.{weight};
 ghost use Rattle.def_promises.specs.Accepted.{Unchangeable};
 ghost use Rattle.def_spend.specs.Fields.{FINAL_SCRIPTSIG, field, signatures_in, asked_type as the_asked_type};
 ghost use Rattle.def_spend.specs.Finalized.{script_sig_of, witness_of, known_script_sig as the_known_script_sig};
 ghost use Rattle.def_spend.specs.Hashes.{hash_by as the_hash_by, script_in};
-ghost use Rattle.def_spend.specs.Input.{spends_of, assets_of};
-ghost use Rattle.def_spend.specs.Kinds.{kind_of, open_script_sig as the_open_script_sig};
+ghost use Rattle.def_spend.specs.Good.{assets_of};
+ghost use Rattle.def_spend.specs.Input.{spends_of};
+ghost use Rattle.def_spend.specs.Kinds.{kind_of, open_script_sig as the_open_script_sig, ends_in_script as the_ends_in_script};
 ghost use Rattle.def_spend.specs.Reading.{HasReading, has_final};
 ghost use Rattle.def_spend.specs.States.{state_of, is_ready, stack_of};
 ghost use Rattle.def_spend.specs.Utxo.{utxo_of, amount_of};
 ghost use Rattle.def_verify.specs.Verdict.{final_verdict as the_final_verdict};
-ghost use Rattle.def_tree.specs.Range.{IsInRange};
+ghost use Rattle.def_tree.specs.InRange.{IsInRange};
 ghost use Rattle.def_tree.specs.Tree.{Tree as TheTree};
 ghost use Rattle.ms_asking.specs.Asked.{asked_plan as the_asked_plan};
+ghost use Rattle.ms_finalize.specs.Settled.{words_in};
 ghost use Rattle.ms_finalize.specs.Witnesses.{IsReplayed};
 ghost use Rattle.ms_input.specs.Seen.{input_seen};
+ghost use Rattle.ms_input.specs.Verified.{IsVerifying, verification_of as the_verification_of};
 ghost use Rattle.ms_sighash.specs.Shared.{shared_of, IsOutputText};
 ghost use Rattle.ms_transaction.specs.Unsigned.{IsUnsigned};
 ghost use Rattle.ms_tree.specs.Shape.{shape};
@@ -25,12 +28,14 @@ ghost use Rattle.ms_verify.specs.Seen.{verdict_seen};
 ghost use Rattle.ms_verify.specs.Signing.{IsAsked};
 
 use crate::gathering::fields_of;
-use crate::scripts::{bytes_or_none, copied, script_or_none, script_sig_by};
-use crate::signing::known_amount;
+use crate::scripts::{bytes_or_none, copied, ends_in_script, script_or_none, script_sig_by};
+use crate::signing::{known_amount, signed_hash};
+use crate::verifying::{Verifying, asked_hash, judging, verification_of, words_of};
 use bumpalo::Bump;
+use def_spend::Verification;
 use ms_asking::asked_plan;
-use ms_fields::{Fields, SignedRef, hash_type_of};
-use ms_finalize::{final_witness, settle};
+use ms_fields::{Fields, SignedRef};
+use ms_finalize::{Judgement, final_witness, key_witness, settle};
 use ms_held::Assets;
 use ms_oracle::Locks;
 use ms_plan::Plan;
@@ -39,26 +44,28 @@ use ms_script::{Blob, Stack};
 use ms_sighash::SharedHashes;
 use ms_transaction::{InputRef, TransactionRef};
 use ms_tree::Tree;
-use ms_utxo::{Amount, Kind, State, spending};
+use ms_utxo::{Amount, Kind, ScriptCode, State, spending};
 use ms_verify::{ConsensusCheck, Verdict, final_verdict, input_check};
 use std::alloc::{AllocError, Global};
 use std::marker::Model;
 
 /// An input of a PSBT that was read: what its map holds, its amount, the kind of its output, its Script, its state, the miniscript
-/// that its Script is read as, and its satisfaction where it is Ready. Contracts see where it stands in the PSBT and the miniscript,
+/// that its Script is read as, what its signatures are where they are judged, and its satisfaction where it is Ready. Contracts see where it stands in the PSBT and the miniscript,
 /// which `input_seen` makes the definition's input. The miniscript lies in an arena, and all else of the map in the bytes of the PSBT.
 #[derive(Drop)]
 pub struct Input<'p, 't> {
+    verification: Verification,
     psbt: &'p Psbt<'p>,
     number: usize,
     input: InputRef<'p>,
     fields: Fields<'p>,
     amount: Amount,
     kind: Kind,
-    script: &'p [u8],
+    script: ScriptCode<'p>,
     tree: Option<Tree<'t>>,
     state: State,
     assets: Option<Assets>,
+    words: Option<Vec<Judgement>>,
     stack: Option<Stack>,
 }
 
@@ -66,6 +73,7 @@ impl<'p, 't> Model for Input<'p, 't> {
     ghost use Rattle.std.specs.Prelude.{option_map};
     ghost use Rattle.std.specs.Coded.{codes};
     ghost use Rattle.ms_tree.specs.Shape.{shape};
+    ghost use Rattle.ms_utxo.specs.Spending.{code_seen};
     ghost use Rattle.ms_input.specs.Seen.{Seen, spend_at, tree_code};
     ghost use Rattle.ms_input.specs.Scaffolding.Kept.{IsRead};
 
@@ -73,26 +81,30 @@ impl<'p, 't> Model for Input<'p, 't> {
 
     ghost coded = { Prim.hlevel (codes, tree_code) };
 
-    ghost view = { λ i. record { spend = spend_at i.psbt.now i.number; tree = i.tree } };
+    ghost view = { λ i. record { spend = spend_at i.verification i.psbt.now i.number; tree = i.tree } };
 
-    ghost invariant = { λ i. IsRead i.psbt.now i.number i.input i.fields i.amount i.kind i.script.now (option_map shape i.tree) i.state i.assets i.stack };
+    ghost invariant = { λ i. IsRead i.verification i.psbt.now i.number i.input i.fields i.amount i.kind (code_seen i.script) (option_map shape i.tree) i.state i.assets
+        (option_map (λ w. w.items) i.words) i.stack };
 }
 
 impl<'p, 't> Input<'p, 't> {
     /// Reads the input of a PSBT with this number, from 0, where this is its transaction: gathers what its map holds, looks for the output that it spends, and
-    /// reads its Script with the keys of its map. The miniscript is put into the arena, which serves this input alone
-    /// where it is let go with it. Refuses for want of memory alone.
+    /// reads its Script with the keys of its map. Where the good signatures count, each is judged, once, if nothing else is wrong. The
+    /// miniscript is put into the arena, which serves this input alone where it is let go with it. Refuses for want of memory alone.
     pub fn read(
         alloc: Global,
         arena: &'t Bump<Global>,
         psbt: &'p Psbt<'p>,
         transaction: &TransactionRef<'p>,
         number: usize,
+        verifying: Verifying<'_>,
     ) -> Result<Input<'p, 't>, AllocError>
         requires transaction { transaction.now ≡ psbt.now.transaction }
+        requires verifying { IsVerifying verifying psbt.now.transaction number }
         requires unsigned { All IsUnsigned transaction.now.inputs }
         requires number { number < length psbt.now.inputs }
-        ensures spend { IfOk result (λ input. slice_get (spends_of psbt.entry.now) number ≡ Some input.spend) }
+        ensures spend { IfOk result (λ input. slice_get (spends_of (the_verification_of verifying.entry) psbt.entry.now) number ≡ Some input.spend) }
+        ensures verification { IfOk result (λ input. input.spend.verification ≡ the_verification_of verifying.entry) }
         ensures transaction { IfOk result (λ input. input.spend.transaction ≡ psbt.entry.now.transaction) }
         ensures number { IfOk result (λ input. input.spend.number ≡ number) }
         ensures fields { IfOk result (λ input. slice_get psbt.entry.now.inputs number ≡ Some input.spend.fields) }
@@ -103,16 +115,21 @@ impl<'p, 't> Input<'p, 't> {
         let input = transaction.input(number);
         let fields = fields_of(alloc, psbt.input_map(number))?;
         let spent = spending(&input, &fields);
-        let guarding = script_or_none(spent.script);
+        let guarding = script_or_none(&spent.script);
         let locks = Locks {
             version: transaction.version(),
             sequence: input.sequence(),
             locktime: transaction.lock_time(),
         };
+        let verification = verification_of(verifying);
         match spent.script {
             Ok(script) => {
-                let settled = settle(alloc, arena, script, &fields, locks)?;
+                let bytes = script.as_slice();
+                let hash = asked_hash(verifying, fields.asked_type(), &input, bytes, spent.amount);
+                let judging = judging(verifying, &hash);
+                let settled = settle(alloc, arena, bytes, &fields, locks, judging)?;
                 Ok(Input {
+                    verification,
                     psbt,
                     number,
                     input,
@@ -123,10 +140,12 @@ impl<'p, 't> Input<'p, 't> {
                     tree: settled.tree,
                     state: settled.state,
                     assets: settled.assets,
+                    words: settled.words,
                     stack: settled.stack,
                 })
             }
             Err(state) => Ok(Input {
+                verification,
                 psbt,
                 number,
                 input,
@@ -137,6 +156,7 @@ impl<'p, 't> Input<'p, 't> {
                 tree: None,
                 state,
                 assets: None,
+                words: None,
                 stack: None,
             }),
         }
@@ -154,6 +174,13 @@ impl<'p, 't> Input<'p, 't> {
         ensures { result ≡ self.now.spend.number }
     {
         self.number
+    }
+
+    /// Which of its signatures count. Takes no memory.
+    pub fn verification(&self) -> Verification
+        ensures { result ≡ self.now.spend.verification }
+    {
+        self.verification
     }
 
     /// What it spends, in satoshis. Takes no memory.
@@ -182,6 +209,14 @@ impl<'p, 't> Input<'p, 't> {
         ensures { result.now ≡ signatures_in self.now.spend.fields }
     {
         self.fields.pairs()
+    }
+
+    /// What each of these signatures is for what it signs, in the map's order, of an Unsatisfied or a Ready input of which the good ones
+    /// count; none of another one. Takes no memory.
+    pub fn words(&self) -> Option<&[Judgement]>
+        ensures { option_map (λ w. w.now) result ≡ words_in (state_of (input_seen self.now)) self.now.spend }
+    {
+        words_of(&self.words)
     }
 
     /// The number of the hash type that is asked, that of ALL where none is. Takes no memory.
@@ -263,21 +298,25 @@ impl<'p, 't> Input<'p, 't> {
         script_sig_by(alloc, self.kind, bytes_or_none(self.fields.redeem()))
     }
 
-    /// The final witness: the satisfaction, and the witness script as its last item. It demands that the input is Ready.
+    /// The final witness: the satisfaction, and of P2WSH the witness script as its last item. It demands that the input is Ready.
     /// Refuses for want of memory alone.
     ///
-    /// The interpreter accepts it where the input's signatures are good, whatever others are, with the transaction's locks, and
+    /// The interpreter accepts that of P2WSH where the signatures that count are good, whatever others are, with the transaction's locks, and
     /// nobody can change it.
     pub fn witness(&self, alloc: Global) -> Result<Blob, AllocError>
         requires { state_of (input_seen self.now) ≡ State.Ready }
         ensures witness { IfOk result (λ witness. witness ≡ witness_of (input_seen self.now)) }
-        ensures accepted { IfOk result (λ witness. IsReplayed (assets_of self.now.spend) (script_in self.now.spend) witness) }
+        ensures accepted { IfOk result (λ witness. the_ends_in_script (kind_of self.now.spend) ≡ true → IsReplayed (assets_of self.now.spend) (script_in self.now.spend) witness) }
         ensures unchangeable { IfOk result (λ witness. (tree : TheTree) → (input_seen self.now).tree ≡ Some tree → Unchangeable tree (assets_of self.now.spend) (stack_of (input_seen self.now))) }
     {
         let (Some(tree), Some(assets), Some(stack)) = (&self.tree, &self.assets, &self.stack) else {
             return Err(AllocError);
         };
-        final_witness(alloc, tree, self.script, assets, stack)
+        if ends_in_script(self.kind) {
+            final_witness(alloc, tree, self.script.as_slice(), assets, stack)
+        } else {
+            key_witness(alloc, tree, assets, stack)
+        }
     }
 
     /// What a signature of the hash type with this number signs, or `None` exactly where it is none: by what all signatures of
@@ -292,9 +331,14 @@ impl<'p, 't> Input<'p, 't> {
         requires output { IsOutputText (slice_get self.now.spend.transaction.outputs self.now.spend.number) output }
         ensures { result ≡ the_hash_by number self.now.spend }
     {
-        let hash_type = hash_type_of(number)?;
-        let amount = known_amount(self.amount);
-        Some(shared.signature_hash(hash_type, self.input.bytes(), output, self.script, amount))
+        signed_hash(
+            shared,
+            output,
+            number,
+            &self.input,
+            self.script.as_slice(),
+            self.amount,
+        )
     }
 
     /// What is said of its final fields: whether what they have consensus run accepts. By what all signatures of the transaction share,

@@ -2,19 +2,19 @@
 
 ghost use Rattle.std.specs.Prelude.{◌≡◌, ◌<◌, [], length, IfOk, option_map, unwrap_or};
 ghost use Rattle.def_spend.specs.Hashes.{script_or_none as the_script_or_none};
-ghost use Rattle.def_spend.specs.Kinds.{pushed as the_pushed, script_sig_by as the_script_sig_by};
-ghost use Rattle.ms_utxo.specs.Spending.{script_seen};
+ghost use Rattle.def_spend.specs.Kinds.{pushed as the_pushed, script_sig_by as the_script_sig_by, ends_in_script as the_ends_in_script};
+ghost use Rattle.ms_utxo.specs.Spending.{code_seen, code_found};
 
-use ms_utxo::{Kind, State};
+use ms_utxo::{Kind, ScriptCode, State};
 use std::alloc::{AllocError, Global};
 
 /// The Script that was found, or no byte where there is none.
-pub fn script_or_none<'a>(script: Result<&'a [u8], State>) -> &'a [u8]
-    ensures { result.now ≡ the_script_or_none (script_seen script.entry) }
+pub fn script_or_none<'a>(script: &Result<ScriptCode<'a>, State>) -> ScriptCode<'a>
+    ensures { code_seen result ≡ the_script_or_none (code_found script.now) }
 {
     match script {
-        Ok(script) => script,
-        Err(_) => &[],
+        Ok(script) => *script,
+        Err(_) => ScriptCode::Witness(&[]),
     }
 }
 
@@ -34,14 +34,23 @@ pub fn script_sig_by(
     kind: Kind,
     redeem: &[u8],
 ) -> Result<Option<Vec<u8>>, AllocError>
-    requires { kind ≡ Kind.P2shP2wsh → length redeem.now < 76 }
+    requires script { kind ≡ Kind.P2shP2wsh → length redeem.now < 76 }
+    requires key { kind ≡ Kind.P2shP2wpkh → length redeem.now < 76 }
     ensures { IfOk result (λ found. option_map (λ v. v.items) found ≡ the_script_sig_by kind redeem.now) }
 {
     match kind {
         Kind::P2shP2wsh => Ok(Some(pushed(alloc, redeem)?)),
-        Kind::P2wsh => Ok(Some(Vec::new(alloc))),
+        Kind::P2shP2wpkh => Ok(Some(pushed(alloc, redeem)?)),
+        Kind::P2wsh | Kind::P2wpkh => Ok(Some(Vec::new(alloc))),
         Kind::Other => Ok(None),
     }
+}
+
+/// Whether the witness that spends an output of this kind ends in a Script.
+pub fn ends_in_script(kind: Kind) -> bool
+    ensures { result ≡ the_ends_in_script kind }
+{
+    matches!(kind, Kind::P2wsh | Kind::P2shP2wsh)
 }
 
 /// A copy of bytes. Refuses for want of memory alone.

@@ -182,8 +182,8 @@ act_keeps k given op.CheckSig s c = sig_keeps k given.checker s c
 act_keeps k given op.CheckSigVerify s c = verify_keeps k (on_checks (check_sig given.checker) s) (sig_keeps k given.checker s c)
 act_keeps k given op.CheckMultiSig s c = multi_keeps k given.checker s c
 act_keeps k given op.CheckMultiSigVerify s c = verify_keeps k (on_multi (check_multi_sig given.checker) s) (multi_keeps k given.checker s c)
-act_keeps k given op.Cltv s c = main_keeps k (lock (λ n. after_holds n given.locks)) s (bounded k s c)
-act_keeps k given op.Csv s c = main_keeps k (lock (λ n. older_holds n given.locks)) s (bounded k s c)
+act_keeps k given op.CheckLockTimeVerify s c = main_keeps k (lock (λ n. after_holds n given.locks)) s (bounded k s c)
+act_keeps k given op.CheckSequenceVerify s c = main_keeps k (lock (λ n. older_holds n given.locks)) s (bounded k s c)
 
 count_keeps : (k : ℕ) (s : State) → Bounded k s → Keeps (Counted k) (count_op s)
 count_keeps k s b =

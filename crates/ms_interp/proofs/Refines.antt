@@ -164,8 +164,8 @@ act_is given op.CheckSigVerify s = verify_after (the_on_checks (check_sig given.
 act_is given op.CheckMultiSig s = multi_is (check_multi_sig given.checker) s
 act_is given op.CheckMultiSigVerify s = verify_after (the_on_multi (check_multi_sig given.checker) s) (on_multi (check_multi_sig given.checker) (machine_of s))
     (multi_is (check_multi_sig given.checker) s)
-act_is given op.Cltv s = main_is (lock (λ n. after_holds n given.locks)) s
-act_is given op.Csv s = main_is (lock (λ n. older_holds n given.locks)) s
+act_is given op.CheckLockTimeVerify s = main_is (lock (λ n. after_holds n given.locks)) s
+act_is given op.CheckSequenceVerify s = main_is (lock (λ n. older_holds n given.locks)) s
 
 only_if_is : (b : Bool) (f : Machine → OrFault Machine) (g : State → OrFault State) (s : State) → f (machine_of s) ≡ seen (g s)
     → only_if b f (machine_of s) ≡ seen (the_only_if b g s)

@@ -6,7 +6,7 @@ use crate::operands::{one_number, two_numbers};
 use crate::pile::Pile;
 use crate::stop::Stop;
 use def_machine::ScriptFault;
-use ms_hash::{HashKind, HashVal, hash_of};
+use ms_hash::{HashKind, HashValue, hash_of};
 use ms_oracle::{Pairs, SignatureChecker};
 use ms_script::{is_key, num_encode, truth};
 
@@ -171,8 +171,8 @@ pub fn hash(main: &mut Pile, kind: HashKind) -> Result<(), Stop>
         return Err(Stop::Fault(ScriptFault::StackUnderflow));
     };
     match hash_of(kind, top.as_slice()) {
-        HashVal::Sha256(digest) | HashVal::Hash256(digest) => main.put_bytes(&digest)?,
-        HashVal::Ripemd160(digest) | HashVal::Hash160(digest) => main.put_bytes(&digest)?,
+        HashValue::Sha256(digest) | HashValue::Hash256(digest) => main.put_bytes(&digest)?,
+        HashValue::Ripemd160(digest) | HashValue::Hash160(digest) => main.put_bytes(&digest)?,
     }
     Ok(())
 }

@@ -18,7 +18,7 @@ use crate::multi_sig::{check_multi_sig, more_ops};
 use crate::operands::condition;
 use crate::pile::Pile;
 use crate::stop::Stop;
-use crate::timelocks::{cltv, csv};
+use crate::timelocks::{check_lock_time_verify, check_sequence_verify};
 use def_machine::{Locks, ScriptFault};
 use ms_hash::HashKind;
 use ms_oracle::{Pairs, SignatureChecker};
@@ -164,8 +164,8 @@ impl Machine {
                 self.check_multi_sig(sigs)?;
                 self.verify()
             }
-            Op::Cltv => cltv(&mut self.main, locks),
-            Op::Csv => csv(&mut self.main, locks),
+            Op::CheckLockTimeVerify => check_lock_time_verify(&mut self.main, locks),
+            Op::CheckSequenceVerify => check_sequence_verify(&mut self.main, locks),
         }
     }
 

@@ -10,7 +10,7 @@ use def_machine::{Locks, ScriptFault};
 
 /// CHECKLOCKTIMEVERIFY (BIP 65): reads the top, whose absolute timelock must hold, and leaves it.
 #[tactic(auto, unfolding(def_machine::specs::Effects::lock))]
-pub fn cltv(main: &mut Pile, locks: &Locks) -> Result<(), Stop>
+pub fn check_lock_time_verify(main: &mut Pile, locks: &Locks) -> Result<(), Stop>
     ensures { Leaves result main.new (lock (λ n. after_holds n locks.now) main.old) }
 {
     let Some(top) = main.pop() else {
@@ -29,7 +29,7 @@ pub fn cltv(main: &mut Pile, locks: &Locks) -> Result<(), Stop>
 
 /// CHECKSEQUENCEVERIFY (BIP 112): reads the top, whose relative timelock must hold, and leaves it.
 #[tactic(auto, unfolding(def_machine::specs::Effects::lock))]
-pub fn csv(main: &mut Pile, locks: &Locks) -> Result<(), Stop>
+pub fn check_sequence_verify(main: &mut Pile, locks: &Locks) -> Result<(), Stop>
     ensures { Leaves result main.new (lock (λ n. older_holds n locks.now) main.old) }
 {
     let Some(top) = main.pop() else {

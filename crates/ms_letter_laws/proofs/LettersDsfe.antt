@@ -4,7 +4,7 @@ use Rattle.std.proofs.lemmas.Bool.{false≢true}
 use Rattle.std.proofs.lemmas.List.{reverse-reverse}
 use Rattle.def_tree.specs.Tree.{Tree}
 use Rattle.def_tree.specs.Range.{IsWritable}
-use Rattle.def_types.specs.Typed.{type_of, IsTyped, mall_of, IsMallTyped}
+use Rattle.def_types.specs.Typed.{type_of, IsTyped, properties_of, IsMalleabilityTyped}
 use Rattle.def_assets.specs.Assets.{known}
 use Rattle.def_sane.specs.Keys.{keys}
 use Rattle.def_satisfaction.specs.Setting.{only}
@@ -22,17 +22,17 @@ dissatisfiable node writable typed locks mode d missed =
     let one = missed_dsat (full (without_signatures locks) mode) refl node writable typed d missed in
     (reverse one.0, turned_bytes one.0 one.1, subst (row (full (without_signatures locks) mode) node).dsat (sym (reverse-reverse one.0)) one.2)
 
-pub signed : (node : Tree) → IsTyped node → Signed node (mall_of node)
+pub signed : (node : Tree) → IsTyped node → Signed node (properties_of node)
 signed node typed locks mode stack s sat =
     let setting = full (without_signatures locks) mode in
     (needs setting node typed (no_table setting (keys node) refl)).sat s (reverse stack) sat
 
-pub forced : (node : Tree) → IsTyped node → Forced node (mall_of node)
+pub forced : (node : Tree) → IsTyped node → Forced node (properties_of node)
 forced node typed locks mode stack f dsat =
     let setting = full (without_signatures locks) mode in
     (needs setting node typed (no_table setting (keys node) refl)).dsat f (reverse stack) dsat
 
-pub expressive : (node : Tree) → IsWritable node → IsTyped node → IsMallTyped node → Expressive node (mall_of node)
+pub expressive : (node : Tree) → IsWritable node → IsTyped node → IsMalleabilityTyped node → Expressive node (properties_of node)
 expressive node writable typed non_malleable locks assets e =
     let there = full (without_signatures locks) (only (known assets)) in
     let one = free_dsat (canonical assets) node writable non_malleable e in

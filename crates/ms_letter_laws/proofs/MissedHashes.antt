@@ -11,7 +11,7 @@ use Rattle.def_tree.specs.declared.Wrapper.TheVariants as wrapper
 use Rattle.def_tree.specs.Tree.{Tree, Trees, just_0, pk_k, pk_h, hash, and_or, two, thresh, multi, wrap, none, more}
 use Rattle.def_tree.specs.Range.{IsWritable, AreWritable}
 use Rattle.def_types.specs.Typed.{type_of, IsTyped, AreTyped}
-use Rattle.def_types.proofs.Rows.{corr_rows}
+use Rattle.def_types.proofs.Rows.{correctness_rows}
 use Rattle.def_types.proofs.Facts.{typed-and_or, typed-or_b, typed-or_d, typed-thresh, typed-thresh_none, OthersFit}
 use Rattle.def_tree.specs.Nodes.{all_nodes, nodes_of_all}
 use Rattle.def_satisfaction.specs.StackSet.{StackSet, Is, Both}
@@ -40,7 +40,7 @@ missed_right a b h kind value i = h kind value (Contains-append_right a b (hash 
 
 module _ (s : Setting) (all : IsTrue s.all_rows) where
   mutual
-    unfolding corr_rows
+    unfolding correctness_rows
 
     pub missed_dsat : (t : Tree) → IsWritable t → IsTyped t → (type_of t).d ≡ true → AreMissed (all_nodes t) → HasBytes (row s t).dsat
     missed_dsat just_0 k typed e h = ([], All-nil IsBytes, refl)

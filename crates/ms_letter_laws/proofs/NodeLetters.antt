@@ -2,12 +2,12 @@
 use Rattle.std.proofs.Common.{◌≡◌, refl, sym, subst, Contains, Ok}
 use Rattle.def_tree.specs.Tree.{Tree}
 use Rattle.def_tree.specs.Range.{IsWritable}
-use Rattle.def_types.specs.declared.Mall.{Mall}
-use Rattle.def_types.specs.Malleable.{mall}
+use Rattle.def_types.specs.declared.MalleabilityProperties.{MalleabilityProperties}
+use Rattle.def_types.specs.Malleable.{malleability_of}
 use Rattle.def_types.specs.Typed.{type_of, IsTyped}
-use Rattle.def_types.proofs.Typing.{corr_is_typed, mall_is_non_malleable}
+use Rattle.def_types.proofs.Typing.{correctness_is_typed, malleability_is_typed}
 use Rattle.def_tree.specs.Nodes.{all_nodes}
-use Rattle.def_promises.specs.Letters.{TypeLetters, MallLetters, LettersHold}
+use Rattle.def_promises.specs.Letters.{TypeLetters, MalleabilityLetters, LettersHold}
 use Rattle.ms_row_laws.proofs.ConsensusLimits.{IsWithinConsensus, valid_consensus, few_children}
 use Rattle.ms_letter_laws.proofs.InheritedByNodes.{node_is_writable, node_is_typed, node_is_few}
 use Rattle.ms_letter_laws.proofs.LettersZonu.{zero_arg, one_arg, non_zero, unit_value}
@@ -29,11 +29,11 @@ module _ (tree : Tree) (writable : IsWritable tree) (consensus : IsWithinConsens
         unit = unit_value node can_write has_type (node_is_few tree (few_children tree consensus) node is);
       }
 
-  mall_letters : (node : Tree) (properties : Mall) → Contains (all_nodes tree) node → mall node ≡ Ok properties → MallLetters node properties
-  mall_letters node properties is e =
+  malleability_letters : (node : Tree) (properties : MalleabilityProperties) → Contains (all_nodes tree) node → malleability_of node ≡ Ok properties → MalleabilityLetters node properties
+  malleability_letters node properties is e =
       let has_type = typed node is in
-      let known = (mall_is_non_malleable node properties).0 e in
-      subst (MallLetters node) (sym known.1) (record {
+      let known = (malleability_is_typed node properties).0 e in
+      subst (MalleabilityLetters node) (sym known.1) (record {
         signed = signed node has_type;
         forced = forced node has_type;
         expressive = expressive node (node_is_writable tree writable node is) has_type known.0;
@@ -43,8 +43,8 @@ pub letters_of : LettersHold
 letters_of tree writable valid = record {
   types = λ node is. (
     type_of node,
-    (corr_is_typed node (type_of node)).1 (typed tree writable (valid_consensus tree valid) node is, refl),
+    (correctness_is_typed node (type_of node)).1 (typed tree writable (valid_consensus tree valid) node is, refl),
     type_letters tree writable (valid_consensus tree valid) node is,
   );
-  properties = mall_letters tree writable (valid_consensus tree valid);
+  properties = malleability_letters tree writable (valid_consensus tree valid);
 }

@@ -6,7 +6,8 @@ use Rattle.std.specs.Str.{bytes_eq}
 use Rattle.std.proofs.lemmas.List.{append-nil, map-append}
 use Rattle.std.proofs.lemmas.List.Elements.{All-nil, All-cons, All-head, All-tail, All-append}
 use Rattle.def_tree.specs.Tree.{Tree, Trees, Key, just_0, just_1, pk_k, pk_h, older, after, hash, and_or, two, thresh, multi, wrap, none, more}
-use Rattle.def_tree.specs.Size.{nodes, nodes_of, measure, measure_of}
+use Rattle.def_tree.specs.Size.{nodes, nodes_of}
+use Rattle.def_tree.specs.InRange.{measure, measure_of}
 use Rattle.def_tree.specs.Range.{IsKey, IsWritable, AreWritable}
 use Rattle.def_tree.specs.Nodes.{all_nodes, nodes_of_all}
 use Rattle.def_sane.specs.Keys.{own_keys, repeats, repeated_from, repeated_key}

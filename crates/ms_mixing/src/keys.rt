@@ -1,8 +1,8 @@
 //! Repeated keys: the keys are copied side by side into the working room that is lent, and compared there.
 ghost use Rattle.std.specs.Prelude.{◌≡◌, ◌+◌, ◌*◌, ◌<◌, ◌≤◌, ◌^◌, ◌++◌, [], length, map, take, All, IfSome};
 ghost use Rattle.std.specs.List.{list_any};
-ghost use Rattle.def_tree.specs.Range.{IsInRange};
-ghost use Rattle.def_tree.specs.Size.{nodes, nodes_of, measure, measure_of};
+ghost use Rattle.def_tree.specs.InRange.{IsInRange, measure, measure_of};
+ghost use Rattle.def_tree.specs.Size.{nodes, nodes_of};
 ghost use Rattle.def_sane.specs.Keys.{repeated_key as the_repeated_key};
 ghost use Rattle.ms_tree.specs.Shape.{shape, shapes};
 ghost use Rattle.ms_mixing.specs.Scaffolding.Repeats.{entry, held, held_in, held_by, is_same, repeats_first};

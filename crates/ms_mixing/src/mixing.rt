@@ -1,6 +1,6 @@
 //! Mixed timelocks (BIP 379, timelock mixing), without memory.
 ghost use Rattle.std.specs.Prelude.{◌≡◌, ◌+◌, ◌<◌, ◌^◌, All, IfOk, IfSome};
-ghost use Rattle.def_tree.specs.Range.{IsInRange};
+ghost use Rattle.def_tree.specs.InRange.{IsInRange};
 ghost use Rattle.def_tree.specs.Size.{nodes, nodes_of};
 ghost use Rattle.def_sane.specs.Locks.{mix as the_mix};
 ghost use Rattle.ms_tree.specs.Shape.{shape, shapes};

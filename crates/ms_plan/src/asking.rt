@@ -1,6 +1,6 @@
 //! Which keys to ask.
 ghost use Rattle.std.specs.Prelude.{◌≡◌, [], Some, IfOk};
-ghost use Rattle.def_tree.specs.Range.{IsInRange};
+ghost use Rattle.def_tree.specs.InRange.{IsInRange};
 ghost use Rattle.def_assets.specs.Assets.{Assets as Held};
 ghost use Rattle.def_sane.specs.Unfit.{IsSane};
 ghost use Rattle.def_plan.specs.Lengths.{Lengths, AreLengths};
@@ -14,7 +14,7 @@ use crate::marks::{Marks, add_signatures, differing, push_signers};
 use crate::planned::Plan;
 use ms_chosen::{Choice, satisfaction};
 use ms_held::Assets;
-use ms_plan_file::{KeyLen, Keys};
+use ms_plan_file::{KeyLength, Keys};
 use ms_tree::{Key, Tree};
 use ms_work::Work;
 use std::alloc::{AllocError, Global};
@@ -57,7 +57,7 @@ fn plan_of_table(
     alloc: Global,
     tree: &Tree<'_>,
     assets: &Assets,
-    table: &[KeyLen],
+    table: &[KeyLength],
 ) -> Result<Option<Plan>, AllocError>
     requires in_range { IsInRange (shape tree.now) }
     requires sane { IsSane (shape tree.now) }
@@ -75,7 +75,7 @@ fn with_marks(
     alloc: Global,
     assets: &Assets,
     marks: Marks,
-    table: &[KeyLen],
+    table: &[KeyLength],
 ) -> Result<Assets, AllocError>
     requires { AreLengths table.now }
     ensures { IfOk result (λ made. made ≡ the_marked assets.now table.now marks) }

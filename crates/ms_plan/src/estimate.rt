@@ -3,7 +3,7 @@ ghost use Rattle.std.specs.Prelude.{◌≡◌, ℕ, ◌++◌, [], ◌∷◌, Som
 ghost use Rattle.def_plan.specs.Lengths.{AreLengths, length_of};
 ghost use Rattle.ms_plan.specs.Estimates.{AnswersFor, IsSound, table_of as the_table};
 
-use ms_plan_file::{KeyLen, KeyLens};
+use ms_plan_file::{KeyLength, KeyLengths};
 use ms_tree::Key;
 use std::alloc::{AllocError, Global};
 use std::marker::Model;
@@ -15,7 +15,7 @@ use std::marker::Model;
 /// the condition of `new`, and stays true of the estimate: each call that takes one has it as a condition of its own.
 #[derive(Drop)]
 pub struct Estimate<'a, F: Fn(&Key) -> Option<u8>> {
-    table: &'a [KeyLen],
+    table: &'a [KeyLength],
     estimate: F,
 }
 
@@ -29,7 +29,7 @@ impl<'a, F: Fn(&Key) -> Option<u8>> Model for Estimate<'a, F> {
 
 impl<'a, F: Fn(&Key) -> Option<u8>> Estimate<'a, F> {
     /// Stores a closure that answers for a table. Takes no memory, and never refuses.
-    pub fn new(table: &'a [KeyLen], estimate: F) -> Estimate<'a, F>
+    pub fn new(table: &'a [KeyLength], estimate: F) -> Estimate<'a, F>
         requires lengths { AreLengths table.now }
         requires answers { AnswersFor F.Fn table.now estimate }
         ensures table { the_table result ≡ table.entry.now }
@@ -50,7 +50,7 @@ impl<'a, F: Fn(&Key) -> Option<u8>> Estimate<'a, F> {
     }
 
     /// Each key of the table with the length that the closure answers: the table. Refuses for want of memory alone.
-    pub(crate) fn answers(&self, alloc: Global) -> Result<KeyLens, AllocError>
+    pub(crate) fn answers(&self, alloc: Global) -> Result<KeyLengths, AllocError>
         requires { IsSound F.Fn self.now }
         ensures { IfOk result (λ answers. answers ≡ the_table self.now) }
     {
@@ -59,18 +59,18 @@ impl<'a, F: Fn(&Key) -> Option<u8>> Estimate<'a, F> {
         for entry in table {
             self.push_answer(entry, &mut answers)?;
         }
-        Ok(KeyLens::from_vec(answers))
+        Ok(KeyLengths::from_vec(answers))
     }
 
     /// Adds the key of an entry with the length that the closure answers.
-    fn push_answer(&self, entry: &KeyLen, answers: &mut Vec<KeyLen>) -> Result<(), AllocError>
+    fn push_answer(&self, entry: &KeyLength, answers: &mut Vec<KeyLength>) -> Result<(), AllocError>
         requires { IsSound F.Fn self.now }
         ensures { OnOk result ((n : ℕ) → length_of (the_table self.now) entry.now.0 ≡ Some n → answers.new.items ≡ answers.old.items ++ (entry.now.0, n) ∷ []) }
     {
         let key = entry.key;
         match self.ask(&key) {
             Some(length) => {
-                answers.push(KeyLen { key, length })?;
+                answers.push(KeyLength { key, length })?;
                 Ok(())
             }
             None => Ok(()),
@@ -78,7 +78,7 @@ impl<'a, F: Fn(&Key) -> Option<u8>> Estimate<'a, F> {
     }
 
     /// The table.
-    fn table(&self) -> &[KeyLen]
+    fn table(&self) -> &[KeyLength]
         ensures { result.now ≡ the_table self.now }
     {
         self.table

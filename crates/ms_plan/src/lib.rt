@@ -5,7 +5,7 @@ pub use asking::plan;
 pub use def_plan::{PlanFault, PlanMember};
 pub use estimate::Estimate;
 pub use ms_plan_file::{
-    KeyLen, KeyLens, Keys, MOST_KEYS, PlanFile, are_lengths, length_in, read_plan,
+    KeyLength, KeyLengths, Keys, MOST_KEYS, PlanFile, are_lengths, length_in, read_plan,
 };
 pub use planned::Plan;
 

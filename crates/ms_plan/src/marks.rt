@@ -4,7 +4,7 @@ ghost use Rattle.std.specs.Prelude.{◌≡◌, ◌≤◌, ◌++◌, [], ◌∷�
 ghost use Rattle.std.specs.List.{list_any};
 ghost use Rattle.std.specs.Str.{bytes_eq};
 ghost use Rattle.def_script.specs.Signature.{MAX_SIGNATURE_SIZE as the_max_signature_size};
-ghost use Rattle.def_tree.specs.Range.{IsInRange};
+ghost use Rattle.def_tree.specs.InRange.{IsInRange};
 ghost use Rattle.def_sane.specs.Keys.{keys as the_keys, keys_of_all};
 ghost use Rattle.def_plan.specs.Lengths.{AreLengths};
 ghost use Rattle.ms_tree.specs.Shape.{shape, shapes, leaf_shape};
@@ -12,7 +12,7 @@ ghost use Rattle.ms_plan.specs.Scaffolding.Marks.{mark_of, marked, differing as 
 
 use ms_bytes::{MAX_SIGNATURE_SIZE, Stack};
 use ms_held::Assets;
-use ms_plan_file::KeyLen;
+use ms_plan_file::KeyLength;
 use ms_tree::{Key, Leaf, Tree, View};
 use std::alloc::{AllocError, Global};
 
@@ -38,7 +38,11 @@ impl Marks {
 }
 
 /// Adds for each entry a signature of its length with its mark. Refuses for want of memory alone.
-pub fn add_signatures(assets: &mut Assets, marks: Marks, table: &[KeyLen]) -> Result<(), AllocError>
+pub fn add_signatures(
+    assets: &mut Assets,
+    marks: Marks,
+    table: &[KeyLength],
+) -> Result<(), AllocError>
     requires { AreLengths table.now }
     ensures { OnOk result (assets.new ≡ record assets.old { pairs = assets.old.pairs ++ marked marks 0 table.now }) }
 {
@@ -49,7 +53,7 @@ pub fn add_signatures(assets: &mut Assets, marks: Marks, table: &[KeyLen]) -> Re
 }
 
 /// Adds a signature of the entry's length, all of whose bytes are this one.
-fn add_signature(assets: &mut Assets, entry: &KeyLen, mark: u8) -> Result<(), AllocError>
+fn add_signature(assets: &mut Assets, entry: &KeyLength, mark: u8) -> Result<(), AllocError>
     requires { entry.now.1 ≤ the_max_signature_size }
     ensures { OnOk result (assets.new ≡ record assets.old { pairs = assets.old.pairs ++ (entry.now.0, replicate entry.now.1 mark) ∷ [] }) }
 {

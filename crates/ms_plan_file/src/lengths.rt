@@ -9,14 +9,14 @@ use std::marker::Model;
 
 /// A key that can sign, and how many bytes its signature is estimated to have. Contracts see the pair of both.
 #[derive(Clone, Copy, Debug, PartialEq, Eq)]
-pub struct KeyLen {
+pub struct KeyLength {
     /// The key.
     pub key: Key,
     /// How many bytes its signature is estimated to have, with the hash type.
     pub length: u8,
 }
 
-impl Model for KeyLen {
+impl Model for KeyLength {
     ghost use Rattle.std.specs.Prelude.{ℕ, List};
 
     ghost Value = { List ℕ × ℕ };
@@ -65,11 +65,11 @@ impl Keys {
 
 /// Keys that can sign with the estimated lengths of their signatures, in order. Contracts see the list of the pairs.
 #[derive(Debug, Drop)]
-pub struct KeyLens {
-    entries: Vec<KeyLen>,
+pub struct KeyLengths {
+    entries: Vec<KeyLength>,
 }
 
-impl Model for KeyLens {
+impl Model for KeyLengths {
     ghost use Rattle.std.specs.Prelude.{ℕ, List};
 
     ghost Value = { List (List ℕ × ℕ) };
@@ -77,23 +77,23 @@ impl Model for KeyLens {
     ghost view = { λ k. k.entries.items };
 }
 
-impl KeyLens {
+impl KeyLengths {
     /// These entries. Takes no memory.
-    pub fn from_vec(entries: Vec<KeyLen>) -> KeyLens
+    pub fn from_vec(entries: Vec<KeyLength>) -> KeyLengths
         ensures { result ≡ entries.items }
     {
-        KeyLens { entries }
+        KeyLengths { entries }
     }
 
     /// The entries, first one first. Takes no memory.
-    pub fn as_slice(&self) -> &[KeyLen]
+    pub fn as_slice(&self) -> &[KeyLength]
         ensures { result.now ≡ self.now }
     {
         &self.entries
     }
 
     /// The same entries. Takes no memory.
-    pub fn into_vec(self) -> Vec<KeyLen>
+    pub fn into_vec(self) -> Vec<KeyLength>
         ensures { result.items ≡ self }
     {
         self.entries
@@ -105,7 +105,7 @@ pub const MOST_KEYS: usize = 256;
 
 /// The length of a key's signature in a table, in bytes: the first entry's, or `None` without one. Takes no memory, and
 /// never refuses.
-pub fn length_in(table: &[KeyLen], key: &Key) -> Option<u8>
+pub fn length_in(table: &[KeyLength], key: &Key) -> Option<u8>
     ensures { result ≡ length_of table.now key.now }
 {
     for entry in table {
@@ -118,7 +118,7 @@ pub fn length_in(table: &[KeyLen], key: &Key) -> Option<u8>
 
 /// Whether a table can be estimated by: at most 256 entries, no key twice, and lengths of 1 to 73 bytes. Takes no memory,
 /// and never refuses.
-pub fn are_lengths(table: &[KeyLen]) -> bool
+pub fn are_lengths(table: &[KeyLength]) -> bool
     ensures { IsTrue result ↔ AreLengths table.now }
 {
     if table.len() > MOST_KEYS {
@@ -133,7 +133,7 @@ pub fn are_lengths(table: &[KeyLen]) -> bool
 }
 
 /// Whether an entry has a length of a signature, and its key isn't that of a later one.
-fn can_stand_before(entry: &KeyLen, later: &[KeyLen]) -> bool
+fn can_stand_before(entry: &KeyLength, later: &[KeyLength]) -> bool
     ensures { IsTrue result ↔ CanStandBefore entry.now later.now }
 {
     // Its clause tells what a key always is.

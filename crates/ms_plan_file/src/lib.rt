@@ -2,7 +2,7 @@
 #![tactic(auto)]
 
 pub use def_plan::{PlanFault, PlanMember};
-pub use lengths::{KeyLen, KeyLens, Keys, MOST_KEYS, are_lengths, length_in};
+pub use lengths::{KeyLength, KeyLengths, Keys, MOST_KEYS, are_lengths, length_in};
 pub use plan_file::{PlanFile, read_plan};
 
 mod lengths;

@@ -13,7 +13,7 @@ ghost use Rattle.def_plan.specs.FileLaws.{IsPlanFile};
 ghost use Rattle.ms_assets.specs.Parts.{first_refused, Reads, ReadsOr, IsOr, repeated};
 ghost use Rattle.ms_plan_file.specs.Scaffolding.Reading.{seen, file_with, parts_seen, shape_of_keys, entries_at, value_refusals};
 
-use crate::lengths::{KeyLen, KeyLens, MOST_KEYS};
+use crate::lengths::{KeyLength, KeyLengths, MOST_KEYS};
 use def_plan::{PlanFault, PlanMember};
 use ms_assets::{
     Assets, ListFault, MOST_PREIMAGES, Member, Preimage, few, is_same_key, list_at, number_of,
@@ -32,7 +32,7 @@ pub struct PlanFile {
     /// The values of the locks and the preimages, without a signature.
     pub assets: Assets,
     /// The keys that can sign, each with the estimated length of its signature.
-    pub table: KeyLens,
+    pub table: KeyLengths,
 }
 
 impl Model for PlanFile {
@@ -73,7 +73,7 @@ pub struct PlanParts {
     /// The preimages, in the order of the file.
     pub preimages: Vec<Preimage>,
     /// The keys that can sign, with their lengths, in the order of the file.
-    pub table: KeyLens,
+    pub table: KeyLengths,
 }
 
 /// A plan file of these parts.
@@ -279,7 +279,7 @@ fn read_keys(alloc: Global, entries: &[Entry]) -> Result<Vec<Keyed>, PlanFault>
 }
 
 /// The table of the keys with their lengths, or the refusal of the first length that no signature has.
-fn read_lengths(alloc: Global, keyed: &[Keyed]) -> Result<KeyLens, PlanFault>
+fn read_lengths(alloc: Global, keyed: &[Keyed]) -> Result<KeyLengths, PlanFault>
     requires { length keyed.now < 2 ^ 32 }
     ensures { ReadsOr PlanFault.Memory (first_refused (λ entry. the_is_signature_size entry.1) PlanFault.Length keyed.now) (λ table. table) keyed.now result }
 {
@@ -292,12 +292,12 @@ fn read_lengths(alloc: Global, keyed: &[Keyed]) -> Result<KeyLens, PlanFault>
         }
         let key = entry.key;
         let length = length as u8;
-        if entries.push(KeyLen { key, length }).is_err() {
+        if entries.push(KeyLength { key, length }).is_err() {
             return Err(PlanFault::Memory);
         }
         place += 1;
     }
-    Ok(KeyLens::from_vec(entries))
+    Ok(KeyLengths::from_vec(entries))
 }
 
 /// The preimages, or the refusal of the first that hasn't 32 bytes.
@@ -313,7 +313,7 @@ fn read_preimages(alloc: Global, strings: &Stack) -> Result<Vec<Preimage>, PlanF
 }
 
 /// Refuses the first key that stands earlier too.
-fn check_repeats(table: &[KeyLen]) -> Result<(), PlanFault>
+fn check_repeats(table: &[KeyLength]) -> Result<(), PlanFault>
     requires { length table.now < 2 ^ 32 }
     ensures { Reads (repeated PlanFault.RepeatedKey table.now) (λ unit. unit) tt result }
 {
@@ -326,7 +326,7 @@ fn check_repeats(table: &[KeyLen]) -> Result<(), PlanFault>
 }
 
 /// Whether an entry has the key of this one.
-fn holds_key_of(table: &[KeyLen], wanted: &KeyLen) -> bool
+fn holds_key_of(table: &[KeyLength], wanted: &KeyLength) -> bool
     ensures { result ≡ list_any (λ entry. bytes_eq wanted.now.0 entry.0) table.now }
 {
     for entry in table {

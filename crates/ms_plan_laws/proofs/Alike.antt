@@ -16,8 +16,10 @@ use Rattle.def_script.specs.Witness.{weight}
 use Rattle.def_satisfaction.specs.Rows.{EMPTY, ONE}
 use Rattle.def_choice.specs.Sets.{sets}
 use Rattle.def_choice.specs.Least.{item, both, lighter, least}
-use Rattle.def_choice.specs.Cheapest.{dissatisfaction, stack_of, signatures_of, signatures}
-use Rattle.def_choice.specs.Strict.{free, free_first, free_children, has_all, strict_of, strict_children}
+use Rattle.def_choice.specs.Cheapest.{stack_of, signatures_of, signatures}
+use Rattle.def_choice.specs.Dissatisfaction.{dissatisfaction}
+use Rattle.def_choice.specs.Strict.{free_first, free_children, has_all, strict_of, strict_children}
+use Rattle.def_choice.specs.Free.{free}
 use Rattle.def_choice.proofs.Best.{lighter-none}
 use Rattle.def_choice.proofs.Weights.{weight-append}
 use Rattle.ms_row_laws.proofs.KeyLists.{first_in, later_in, no_element}

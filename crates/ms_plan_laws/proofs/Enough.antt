@@ -22,8 +22,10 @@ use Rattle.def_satisfaction.proofs.Bare.{dsat_within}
 use Rattle.def_choice.specs.Sets.{sets}
 use Rattle.def_choice.specs.Least.{item, both}
 use Rattle.def_choice.specs.Lightest.{IsLightest}
-use Rattle.def_choice.specs.Cheapest.{dissatisfaction, stack_of, signatures_of}
-use Rattle.def_choice.specs.Strict.{free, free_first, free_children, has_all, strict_of, strict_children}
+use Rattle.def_choice.specs.Cheapest.{stack_of, signatures_of}
+use Rattle.def_choice.specs.Dissatisfaction.{dissatisfaction}
+use Rattle.def_choice.specs.Strict.{free_first, free_children, has_all, strict_of, strict_children}
+use Rattle.def_choice.specs.Free.{free}
 use Rattle.def_choice.specs.Tight.{HasOne, FreeFirst, signed_row, free_row, TightSat, TightParts}
 use Rattle.def_choice.proofs.Weights.{weight-append, reverse-cons}
 use Rattle.def_choice.proofs.Best.{best_both}

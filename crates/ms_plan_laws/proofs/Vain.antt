@@ -13,8 +13,8 @@ use Rattle.def_tree.specs.declared.Two.TheVariants as kind
 use Rattle.def_tree.specs.declared.Wrapper.TheVariants as wrapper
 use Rattle.def_tree.specs.Tree.{Tree, Trees, Key, pk_k, pk_h, and_or, two, thresh, multi, wrap, none, more}
 use Rattle.def_tree.specs.Range.{count}
-use Rattle.def_types.specs.Typed.{mall_of}
-use Rattle.def_types.proofs.Rows.{mall_rows}
+use Rattle.def_types.specs.Typed.{properties_of}
+use Rattle.def_types.proofs.Rows.{malleability_rows}
 use Rattle.def_assets.specs.Assets.{Assets, AreAssets, unsigned}
 use Rattle.def_sane.specs.Keys.{keys, keys_of_all, AreDistinct}
 use Rattle.def_satisfaction.specs.StackSet.{StackSet, Is, Both, Either}
@@ -23,8 +23,10 @@ use Rattle.def_satisfaction.specs.Satisfaction.{canonical}
 use Rattle.def_choice.specs.Sets.{sets}
 use Rattle.def_choice.specs.Least.{both}
 use Rattle.def_choice.specs.Lightest.{IsLightest}
-use Rattle.def_choice.specs.Cheapest.{dissatisfaction, stack_of, signatures_of, signatures}
-use Rattle.def_choice.specs.Strict.{free, free_first, free_children, has_all, strict_of, strict_children}
+use Rattle.def_choice.specs.Cheapest.{stack_of, signatures_of, signatures}
+use Rattle.def_choice.specs.Dissatisfaction.{dissatisfaction}
+use Rattle.def_choice.specs.Strict.{free_first, free_children, has_all, strict_of, strict_children}
+use Rattle.def_choice.specs.Free.{free}
 use Rattle.def_choice.specs.Tight.{HasOne, signed_row, free_row}
 use Rattle.def_choice.proofs.Best.{best_both}
 use Rattle.def_choice.proofs.Leaves.{is_best}
@@ -162,12 +164,12 @@ module _ (assets : Assets) (are : AreAssets assets) (pairs : Pairs) where
       free_sat (canonical there) (canonical (unsigned assets)) has t f.writable f.typed f.safe
       (λ key other sig i same counts. ap (λ k. is_good (member pairs) k sig) counts ∙ h key sig i)
 
-  bare_dsat : (t : Tree) → Fits t → (mall_of t).e ≡ true → HasOne (free_row assets t).dsat
+  bare_dsat : (t : Tree) → Fits t → (properties_of t).e ≡ true → HasOne (free_row assets t).dsat
   bare_dsat t f e = free_dsat (canonical (unsigned assets)) t f.writable f.safe e
 
-  clash : (x z : Tree) → Fits x → Fits z → ((mall_of x).s || (mall_of z).s) ≡ true → HasOne (free_row assets x).sat → HasOne (free_row assets z).sat → ⊥
+  clash : (x z : Tree) → Fits x → Fits z → ((properties_of x).s || (properties_of z).s) ≡ true → HasOne (free_row assets x).sat → HasOne (free_row assets z).sat → ⊥
   clash x z f g e p q =
-      elim (or_cases (mall_of x).s (mall_of z).s e) [ inl a ↦ signs assets x f.typed a p.0 p.1 | inr a ↦ signs assets z g.typed a q.0 q.1 ]
+      elim (or_cases (properties_of x).s (properties_of z).s e) [ inl a ↦ signs assets x f.typed a p.0 p.1 | inr a ↦ signs assets z g.typed a q.0 q.1 ]
 
   -- two parts of a tree: both, of which one lacks a signature
   both_empty : (x y : Tree) → Disjoint (keys x) (keys y) → OnlySign (taken assets x ++ taken assets y) (keys x ++ keys y) → Missing (taken assets x ++ taken assets y) →
@@ -265,7 +267,7 @@ module _ (assets : Assets) (are : AreAssets assets) (pairs : Pairs) where
       few_parts xs t.1 set j.below j.left u.1 (in_right (taken_of_children assets xs set) (keys x) (keys_of_all xs) only) n h.0 h.2
 
   mutual
-    unfolding mall_rows
+    unfolding malleability_rows
 
     pub vain : (t : Tree) → Fits t → (w : Stack) → strict_of assets t ≡ Some w → OnlySign (taken assets t) (keys t) → Missing (taken assets t) → IsEmpty (Sats t)
     vain (pk_k key) f w e only missing =
@@ -293,7 +295,7 @@ module _ (assets : Assets) (are : AreAssets assets) (pairs : Pairs) where
         let bare_z = none_right xy (keys x ++ keys y) (keys z) t.4 (in_part xy (keys x ++ keys y) (part_both _ _ _ _ (taken_part assets x) (taken_part assets y))) signs_xy in
         let free_z = freed z t.2 bare_z r.0 r.2 in
         let first = freer (one_both _ _ free_z (bare_dsat x t.0 f.safe.3.0)) in
-        elim (or_cases ((mall_of x).s || (mall_of y).s) (mall_of z).s f.safe.3.1.0) [
+        elim (or_cases ((properties_of x).s || (properties_of y).s) (properties_of z).s f.safe.3.1.0) [
           | inl s ↦ clash x y t.0 t.1 s (first.1.1, first.1.3) (first.1.0, first.1.2)
           | inr s ↦ signs assets z t.2.typed s free_z.0 free_z.1
         ])
@@ -314,7 +316,7 @@ module _ (assets : Assets) (are : AreAssets assets) (pairs : Pairs) where
         both_empty x y t.2 only missing (vain x t.0 j.above j.right) (vain y t.1 j.below j.left)
     vain (two kind.OrB x z) f w e only missing =
         let t = fit_two kind.OrB x z f in
-        let es = and_parts (mall_of x).e (mall_of z).e f.safe.2.0 in
+        let es = and_parts (properties_of x).e (properties_of z).e f.safe.2.0 in
         let own = keys x ++ keys z in
         let alone : OnlySign (taken assets x ++ []) own → OnlySign (taken assets x) own = subst (λ ks. OnlySign ks own) (append-nil (taken assets x)) in
         let neither = options_empty _ _ (Both (signed_row there z).dsat (Sats x)) (Both (Sats z) (signed_row there x).dsat)

@@ -7,7 +7,7 @@ ghost use Rattle.def_policy.specs.Policy as policy;
 ghost use Rattle.def_policy.specs.Simple.{joined, simple, simple_each};
 ghost use Rattle.def_policy.specs.Size.{size, depth, HasLocks, MOST_POLICIES, MOST_POLICY_DEPTH};
 ghost use Rattle.def_sane.specs.Unfit.{IsSane};
-ghost use Rattle.def_tree.specs.Range.{IsInRange};
+ghost use Rattle.def_tree.specs.InRange.{IsInRange};
 ghost use Rattle.ms_policy.specs.Shape.{policy_shape};
 ghost use Rattle.ms_tree.specs.Shape.{shape, shapes, leaf_shape};
 

@@ -1,6 +1,6 @@
 //! Abstract policies.
 
-use ms_hash::HashVal;
+use ms_hash::HashValue;
 use ms_tree::Key;
 
 /// A condition over keys, hash locks and timelocks. Contracts see it through `policy_shape`.
@@ -17,7 +17,7 @@ pub enum Policy {
     /// An absolute timelock with its operand (BIP 65).
     After(u64),
     /// A preimage of the hash value.
-    Hash(HashVal),
+    Hash(HashValue),
     /// Each part.
     All(Vec<Policy>),
     /// One part.

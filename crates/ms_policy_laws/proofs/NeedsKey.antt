@@ -10,8 +10,8 @@ use Rattle.def_tree.specs.Tree.{Tree, Trees, Key, just_0, pk_k, pk_h, and_or, tw
 use Rattle.def_types.specs.declared.Base.{Base}
 use Rattle.def_types.specs.declared.Base.TheVariants.{K}
 use Rattle.def_types.specs.Malleable.{count_not_s}
-use Rattle.def_types.specs.Typed.{type_of, IsTyped, AreTyped, mall_of, malls_of}
-use Rattle.def_types.proofs.Rows.{corr_rows, mall_rows}
+use Rattle.def_types.specs.Typed.{type_of, IsTyped, AreTyped, properties_of, all_properties_of}
+use Rattle.def_types.proofs.Rows.{correctness_rows, malleability_rows}
 use Rattle.def_types.proofs.Facts.{typed-and_or, typed-or_i, typed-multi, typed-wrap_c}
 use Rattle.def_sane.proofs.Meanings.{valid_means, sane_means}
 use Rattle.def_policy.specs.Policy as policy
@@ -45,7 +45,7 @@ module _ (facts : Facts) (unsigned : (key : Key) → facts.signs key ≡ false) 
 
   -- of type K: it leaves a key whose signature is checked
   key_unsigned : (t : Tree) → IsTyped t → (type_of t).base ≡ K → Is t ≡ false
-  unfolding corr_rows
+  unfolding correctness_rows
   key_unsigned just_0 typed e = refl
   key_unsigned (pk_k key) typed e = unsigned key
   key_unsigned (pk_h key) typed e = unsigned key
@@ -71,21 +71,21 @@ module _ (facts : Facts) (unsigned : (key : Key) → facts.signs key ≡ false) 
   one_more b m n h = grind arith
 
   mutual
-    unfolding mall_rows
+    unfolding malleability_rows
 
-    pub needs_key : (t : Tree) → IsTyped t → (mall_of t).s ≡ true → Is t ≡ false
+    pub needs_key : (t : Tree) → IsTyped t → (properties_of t).s ≡ true → Is t ≡ false
     needs_key just_0 typed s = refl
     needs_key (pk_k key) typed s = unsigned key
     needs_key (pk_h key) typed s = unsigned key
     needs_key (and_or x y z) typed s =
-        let e = and_parts (mall_of z).s ((mall_of x).s || (mall_of y).s) s in
+        let e = and_parts (properties_of z).s ((properties_of x).s || (properties_of y).s) s in
         any_neither _ (Is z) (one_of_both (Is x) (Is y) _ _ (needs_key x typed.0) (needs_key y typed.1) e.1)
         (needs_key z typed.2 e.0)
     needs_key (two kind.AndV x y) typed s = one_of_both (Is x) (Is y) _ _ (needs_key x typed.0) (needs_key y typed.1) s
     needs_key (two kind.AndB x y) typed s = one_of_both (Is x) (Is y) _ _ (needs_key x typed.0) (needs_key y typed.1) s
     needs_key (two k x y) typed s = each_of_both (Is x) (Is y) _ _ (needs_key x typed.0) (needs_key y typed.1) s
     needs_key (thresh k xs) typed s =
-        let l = ltb-true (count_not_s (malls_of xs)) k s in
+        let l = ltb-true (count_not_s (all_properties_of xs)) k s in
         let f = few_true xs typed.0 in
         too_few k _ (omega (arith, l, f))
     needs_key (multi k keys) typed s =
@@ -97,11 +97,11 @@ module _ (facts : Facts) (unsigned : (key : Key) → facts.signs key ≡ false) 
     needs_key leaf typed s = absurd (false≢true s)
 
     -- no more children are true than there are without s
-    few_true : (xs : Trees) → AreTyped xs → how_many (truths facts (plain_each xs)) ≤ count_not_s (malls_of xs)
+    few_true : (xs : Trees) → AreTyped xs → how_many (truths facts (plain_each xs)) ≤ count_not_s (all_properties_of xs)
     few_true none typed = omega arith
     few_true (more x xs) typed =
         let rest = few_true xs typed.1 in
-        elim (cases_Bool (mall_of x).s) [
+        elim (cases_Bool (properties_of x).s) [
           | inl s ↦ (let e = needs_key x typed.0 s in rw (s, e) (omega (arith, rest)))
           | inr s ↦ rw s (one_more (Is x) _ _ rest)
         ]

@@ -7,8 +7,8 @@ use Rattle.def_tree.specs.declared.Two.TheVariants as kind
 use Rattle.def_tree.specs.declared.Wrapper.TheVariants as wrapper
 use Rattle.def_tree.specs.Tree.{Tree, Trees, just_0, just_1, pk_k, pk_h, older, after, hash, and_or, two, thresh, multi, wrap, none, more}
 use Rattle.def_tree.specs.Range.{IsWritable, AreWritable}
-use Rattle.def_types.specs.Typed.{mall_of, malls_of, IsMallTyped, AreMallTyped}
-use Rattle.def_types.proofs.Rows.{mall_rows}
+use Rattle.def_types.specs.Typed.{properties_of, all_properties_of, IsMalleabilityTyped, AreMalleabilityTyped}
+use Rattle.def_types.proofs.Rows.{malleability_rows}
 use Rattle.def_assets.specs.Assets.{Assets, AreAssets}
 use Rattle.def_sane.proofs.Meanings.{sane_means}
 use Rattle.def_satisfaction.specs.Setting.{Setting}
@@ -33,10 +33,10 @@ module _ (assets : Assets) (are : AreAssets assets) where
   facts = facts_of assets
 
   mutual
-    unfolding mall_rows
+    unfolding malleability_rows
 
     -- of each miniscript that meets the requirements of malleability
-    pub says : (t : Tree) → IsWritable t → IsMallTyped t → Says (is_true facts (plain t)) (row s t).sat
+    pub says : (t : Tree) → IsWritable t → IsMalleabilityTyped t → Says (is_true facts (plain t)) (row s t).sat
     says just_0 k safe = record { to = λ e. absurd (false≢true e); from = λ w. absurd w.1 }
     says just_1 k safe = record { to = λ e. ([], refl); from = λ w. refl }
     says (pk_k key) k safe = says_key assets are key
@@ -50,7 +50,7 @@ module _ (assets : Assets) (are : AreAssets assets) where
     says (two kind.AndV x y) k safe = says_both _ _ (row s x).sat (row s y).sat (says x k.0 safe.0) (says y k.1 safe.1)
     says (two kind.AndB x y) k safe = says_both _ _ (row s x).sat (row s y).sat (says x k.0 safe.0) (says y k.1 safe.1)
     says (two kind.OrB x z) k safe =
-        let e = and_parts (mall_of x).e (mall_of z).e safe.2.0 in
+        let e = and_parts (properties_of x).e (properties_of z).e safe.2.0 in
         says_or_b assets _ _ (row s x) (row s z)
         (says x k.0 safe.0) (says z k.1 safe.1) (free_dsat s x k.0 safe.0 e.0) (free_dsat s z k.1 safe.1 e.1)
     says (two kind.OrC x z) k safe =
@@ -67,16 +67,16 @@ module _ (assets : Assets) (are : AreAssets assets) where
     says (wrap kind x) k safe = says x k safe.0
 
     -- where so many children can be satisfied, so many of them are, and the others dissatisfied
-    so_many : (xs : Trees) → AreWritable xs → AreMallTyped xs → all_e (malls_of xs) ≡ true →
+    so_many : (xs : Trees) → AreWritable xs → AreMalleabilityTyped xs → all_e (all_properties_of xs) ≡ true →
         (n : ℕ) → n ≤ how_many (truths facts (plain_each xs)) → HasOne (parts s xs n)
     so_many none k safe e n h = ([], (omega arith, refl))
     so_many (more x xs) k safe e n h =
-        let p = and_parts (mall_of x).e (all_e (malls_of xs)) e in
+        let p = and_parts (properties_of x).e (all_e (all_properties_of xs)) e in
         one_more _ _ (row s x) (parts s xs)
         (says x k.0 safe.0) (free_dsat s x k.0 safe.0 p.0) (so_many xs k.1 safe.1 p.1) n h
 
     -- no more children are satisfied than have true policies
-    at_most : (xs : Trees) → AreWritable xs → AreMallTyped xs → (n : ℕ) (w : Stack) → parts s xs n w → n ≤ how_many (truths facts (plain_each xs))
+    at_most : (xs : Trees) → AreWritable xs → AreMalleabilityTyped xs → (n : ℕ) (w : Stack) → parts s xs n w → n ≤ how_many (truths facts (plain_each xs))
     at_most none k safe n w p = let e = p.0 in omega arith
     at_most (more x xs) k safe n w p = no_more _ _ (row s x) (parts s xs) (says x k.0 safe.0) (at_most xs k.1 safe.1) n w p
 

@@ -7,7 +7,7 @@ ghost use Rattle.def_text.specs.Print.{printed, printed_behind};
 ghost use Rattle.def_text.specs.Spells.{SpellsText};
 ghost use Rattle.def_text.specs.Token.{tokens};
 ghost use Rattle.def_text.specs.Word.{hash_name, two_name};
-ghost use Rattle.def_tree.specs.Range.{IsInRange};
+ghost use Rattle.def_tree.specs.InRange.{IsInRange};
 ghost use Rattle.def_tree.specs.Tree as model;
 ghost use Rattle.ms_print.specs.Added.{AddsFront};
 ghost use Rattle.ms_print.specs.Scaffolding.Seen.{is_lettered};

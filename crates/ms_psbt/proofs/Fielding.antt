@@ -74,6 +74,14 @@ pub no_pair_there : (o : Option Pair) → option_map (λ (pair : Pair). pair.val
 no_pair_there (Some pair) e = absurd cc
 no_pair_there None e = refl
 
+-- where no pair has a type between two, none has one of these
+pub none_between : (first last type at : ℕ) (map : Map) → (nat_le first type && nat_le type last) ≡ true → place_of first last at map ≡ None → is_some (pair_of_type type map) ≡ false
+none_between first last type at [] within none = refl
+none_between first last type at (pair ∷ map) within none =
+    let again : place_of first last (at + length (pair_text pair)) map ≡ None → is_some (pair_of_type type map) ≡ false =
+    none_between first last type (at + length (pair_text pair)) map within in
+    grind (arith, again)
+
 -- it has that type, and nothing wrong
 pub no_fault : (forms : ℕ → Form) (psbt : Bytes) (type room : ℕ) (before : Map) (at : ℕ) (rest : Map × ℕ) (pair : Pair) → pairs_at forms psbt room before at ≡ Ok rest
     → pair_of_type type rest.0 ≡ Some pair → (type_of pair.key ≡ type) × (shape_fault forms pair ≡ None)

@@ -6,8 +6,11 @@ use Rattle.def_psbt.specs.declared.PsbtVersion.TheVariants as version
 use Rattle.def_psbt.specs.Listed.{Form, global_form, input_form, output_form, shape_fault}
 use Rattle.def_psbt.specs.Map.{Pair, Map, type_of, map_text, pair_of_type, value_of_type, has_types}
 use Rattle.def_psbt.specs.Fields.{has_time_alone, has_height_alone}
-use Rattle.def_psbt.specs.Reading.{Rules, map_at, whole_map_at, unserved_at}
-use Rattle.ms_psbt.proofs.Fielding.{no_fault}
+use Rattle.def_psbt.specs.Reading.{Rules, map_at, whole_map_at, place_of, unserved_at}
+use Rattle.ms_psbt.specs.declared.locks.Lock.{Lock}
+use Rattle.ms_psbt.specs.declared.locks.Lock.TheVariants as lock
+use Rattle.ms_psbt.specs.Scaffolding.Locks.{is_meant}
+use Rattle.ms_psbt.proofs.Fielding.{no_fault, none_between}
 
 -- the pair whose value was found
 pub record Found (forms : ℕ → Form) (type : ℕ) (value : Bytes) : Type 0 where
@@ -115,6 +118,15 @@ any_here p fields rest total is e = sym (ap (λ b. b || list_any p rest) is) ∙
 
 pub any_next : (p : Map → Bool) (fields : Map) (rest : List Map) (total : Bool) → p fields ≡ false → list_any p (fields ∷ rest) ≡ total → list_any p rest ≡ total
 any_next p fields rest total is e = sym (ap (λ b. b || list_any p rest) is) ∙ e
+
+-- an input that has neither a time nor a height isn't meant
+pub no_lock : (which : Lock) (fields : Map) (at : ℕ) → place_of 0x11 0x12 at fields ≡ None → false ≡ is_meant which fields
+no_lock which fields at none = by_lock which
+  where
+    by_lock : (which : Lock) → false ≡ is_meant which fields
+    by_lock lock.Either = rw (none_between 0x11 0x12 0x11 at fields refl none, none_between 0x11 0x12 0x12 at fields refl none) refl
+    by_lock lock.TimeAlone = rw (none_between 0x11 0x12 0x11 at fields refl none) refl
+    by_lock lock.HeightAlone = rw (none_between 0x11 0x12 0x12 at fields refl none) refl
 
 -- ---- a map up to which no lock time serves all
 

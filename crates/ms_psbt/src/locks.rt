@@ -2,14 +2,14 @@
 
 ghost use Rattle.std.specs.Prelude.{◌≡◌, ◌⊎◌, ◌||◌, ◌&&◌, max, ℕ, false, List, Ok};
 ghost use Rattle.std.specs.List.{list_any};
-ghost use Rattle.def_psbt.specs.Fields.{greatest as the_greatest, lock_time_of};
+ghost use Rattle.def_psbt.specs.Fields.{greatest as the_greatest, lock_time_of, has_time_alone, has_height_alone};
 ghost use Rattle.def_psbt.specs.Listed.{Form};
 ghost use Rattle.def_psbt.specs.Map.{Map};
 ghost use Rattle.def_psbt.specs.Reading.{map_at, unserved_at};
 ghost use Rattle.ms_psbt.specs.Scaffolding.Locks.{is_meant};
 ghost use Rattle.ms_psbt.specs.Scaffolding.Maps.{InputsAt};
 
-use crate::values::{has, number_or};
+use crate::values::{has, number_or, place_in};
 
 /// Which inputs are meant.
 #[derive(Clone, Copy)]
@@ -22,8 +22,32 @@ pub enum Lock {
     HeightAlone,
 }
 
-/// Whether the input whose map begins at a place is meant.
+/// Whether the input whose map begins at a place is meant. Few have a time or a height, and the map of any other is walked over once.
 fn has_lock(lock: Lock, psbt: &[u8], from: usize) -> bool
+    ensures { (forms : ℕ → Form) (map : Map × ℕ) → map_at forms psbt.now from ≡ Ok map → result ≡ is_meant lock map.0 }
+{
+    match place_in(psbt, from, 0x11, 0x12) {
+        Some(_) => has_such_lock(lock, psbt, from),
+        None => false,
+    }
+}
+
+/// Whether it has a time alone, and whether it has a height alone.
+fn locks_alone(psbt: &[u8], from: usize) -> (bool, bool)
+    ensures time { (forms : ℕ → Form) (map : Map × ℕ) → map_at forms psbt.now from ≡ Ok map → result.0 ≡ has_time_alone map.0 }
+    ensures height { (forms : ℕ → Form) (map : Map × ℕ) → map_at forms psbt.now from ≡ Ok map → result.1 ≡ has_height_alone map.0 }
+{
+    match place_in(psbt, from, 0x11, 0x12) {
+        Some(_) => {
+            let time = has_such_lock(Lock::TimeAlone, psbt, from);
+            let height = has_such_lock(Lock::HeightAlone, psbt, from);
+            (time, height)
+        }
+        None => (false, false),
+    }
+}
+
+fn has_such_lock(lock: Lock, psbt: &[u8], from: usize) -> bool
     ensures { (forms : ℕ → Form) (map : Map × ℕ) → map_at forms psbt.now from ≡ Ok map → result ≡ is_meant lock map.0 }
 {
     let time = has(psbt, from, 0x11);
@@ -99,10 +123,9 @@ pub fn unserved(psbt: &[u8], places: &[u32]) -> Option<u32>
     let mut time = false;
     let mut height = false;
     for place in places {
-        let has_time = has_lock(Lock::TimeAlone, psbt, *place as usize);
-        let has_height = has_lock(Lock::HeightAlone, psbt, *place as usize);
-        time = either(time, has_time);
-        height = either(height, has_height);
+        let alone = locks_alone(psbt, *place as usize);
+        time = either(time, alone.0);
+        height = either(height, alone.1);
         if both(time, height) {
             return Some(*place);
         }

@@ -79,6 +79,7 @@ fn fault_of(fault: SizeFault) -> PsbtFault
 }
 
 /// The size at a place, and the place behind it. Nearly all sizes are of one byte.
+#[inline(always)]
 #[tactic(auto, unfolding(def_psbt::specs::Reading::size_at, def_script::specs::Sizes::read_size))]
 pub fn size_at(psbt: &[u8], at: usize) -> Result<(u64, usize), Refusal>
     requires { at ≤ length psbt.now }
@@ -106,6 +107,7 @@ fn wide_size_at(psbt: &[u8], at: usize) -> Result<(u64, usize), Refusal>
 }
 
 /// A key, or a value, behind its size at a place, and the place behind it.
+#[inline(always)]
 #[tactic(auto, unfolding(def_psbt::specs::Reading::string_at, def_psbt::specs::Reading::bytes_at))]
 pub fn string_at(psbt: &[u8], at: usize) -> Result<(&[u8], usize), Refusal>
     requires { at ≤ length psbt.now }
@@ -124,6 +126,7 @@ pub fn string_at(psbt: &[u8], at: usize) -> Result<(&[u8], usize), Refusal>
 }
 
 /// The pair at a place, and the place behind it.
+#[inline(always)]
 #[tactic(auto, unfolding(def_psbt::specs::Reading::pair_at))]
 pub fn pair_at(psbt: &[u8], at: usize) -> Result<(PairRef<'_>, usize), Refusal>
     requires { at ≤ length psbt.now }

@@ -20,6 +20,7 @@ pub fn first_bytes(count: u64, bytes: &[u8]) -> Option<(&[u8], &[u8])>
 }
 
 /// A CompactSize, and the bytes behind it. Nearly all are of one byte.
+#[inline(always)]
 #[tactic(auto, unfolding(def_psbt::specs::Part::first_size, def_script::specs::Sizes::read_size))]
 pub fn first_size(bytes: &[u8]) -> Option<(u64, &[u8])>
     ensures { IsPart (λ part. (part.0, part.1.now)) result (the_first_size bytes.now) }

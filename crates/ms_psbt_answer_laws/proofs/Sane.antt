@@ -10,9 +10,10 @@ use Rattle.def_sane.specs.Unfit.{first_unfit, IsSane}
 use Rattle.def_spend.specs.declared.State.{State}
 use Rattle.def_spend.specs.declared.State.TheVariants as state
 use Rattle.def_spend.specs.Fields.{REDEEM_SCRIPT, WITNESS_SCRIPT, field, signatures_in, asked_type}
-use Rattle.def_spend.specs.Input.{Spend, assets_of}
-use Rattle.def_spend.specs.Kinds.{is_p2sh, p2sh_of, redeemed, program_in, program_of_utxo, is_script_hash, spent_utxo, spent_program}
-use Rattle.def_spend.specs.Reading.{Input, has_final, script_for, script_of_program, script_with, open_script, script_code}
+use Rattle.def_spend.specs.Input.{Spend}
+use Rattle.def_spend.specs.Good.{assets_of}
+use Rattle.def_spend.specs.Kinds.{is_p2sh, p2sh_of, redeemed, program_in, program_of_utxo, is_script_hash, is_key_hash, spent_utxo, spent_program}
+use Rattle.def_spend.specs.Reading.{Input, has_final, script_for, key_hash_script, script_of_program, script_with, open_script, script_code}
 use Rattle.def_spend.specs.States.{is_sane, is_final, is_sighash_wrong, are_too_many, choice_state, held_state, unless_unfit, tree_state, state_by, state_of}
 use Rattle.def_spend.specs.Utxo.{Utxo}
 use Rattle.def_spend.specs.Utxo as utxo
@@ -52,11 +53,12 @@ early_for program (Some script) = go (bytes_eq program (program_of script))
     go false = (refl, refl)
 
 early_script : (program : Bytes) (o : Option Bytes) → IsEarly (script_of_program program o)
-early_script program o = go (is_script_hash program)
+early_script program o = go (is_script_hash program) (is_key_hash program)
   where
-    go : (b : Bool) → IsEarly (if b then script_for program o else Err state.OtherOutput)
-    go true = early_for program o
-    go false = (refl, refl)
+    go : (b k : Bool) → IsEarly (if b then script_for program o else if k then Ok (key_hash_script program) else Err state.OtherOutput)
+    go true k = early_for program o
+    go false true = tt
+    go false false = (refl, refl)
 
 early_with : (r : Result Bytes State) (o : Option Bytes) → IsEarly r → IsEarly (script_with r o)
 early_with (Ok program) o early = early_script program o

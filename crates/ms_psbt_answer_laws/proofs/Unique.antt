@@ -7,6 +7,7 @@ use Rattle.def_psbt.specs.declared.Refusal.{Refusal}
 use Rattle.def_psbt.specs.Map.{Psbt}
 use Rattle.def_psbt.specs.Source.{psbt_of}
 use Rattle.def_spend.specs.declared.State.{State}
+use Rattle.def_spend.specs.declared.Verification.{Verification}
 use Rattle.def_spend.specs.Fields.{keys_in}
 use Rattle.def_spend.specs.Input.{Spend, spends_of}
 use Rattle.def_spend.specs.Reading.{Input, script_code, IsReadAs, ReadsAs, HasReading, AreInputs}
@@ -16,7 +17,7 @@ use Rattle.def_psbt_answer.specs.declared.words.Request.TheVariants as request
 use Rattle.def_psbt_answer.specs.Words.{request_of}
 use Rattle.def_psbt_answer.specs.declared.words.Form.{Form}
 use Rattle.def_psbt_answer.specs.Reply.{Reply, form_of, command_reply}
-use Rattle.def_psbt_answer.specs.Answer.{RepliesToSource, RepliesToWords}
+use Rattle.def_psbt_answer.specs.Answer.{verification_of, RepliesToSource, RepliesToWords}
 use Rattle.ms_psbt_answer_laws.specs.Laws.{OneAnswer, OneReading}
 
 one_script : (keys : List Key) (script : Bytes) (a b : Option Tree) → IsReadAs keys script a → IsReadAs keys script b → a ≡ b
@@ -47,8 +48,8 @@ one_list (x ∷ xs) (y ∷ ys) e h k =
     ap (λ z. z ∷ xs) first ∙ ap (λ zs. y ∷ zs) rest
 one_list a b e h k = cc
 
-pub one_inputs : (psbt : Psbt) (a b : List Input) → AreInputs psbt a → AreInputs psbt b → a ≡ b
-one_inputs psbt a b h k = one_list a b (h.spends ∙ sym k.spends) h.read k.read
+pub one_inputs : (verification : Verification) (psbt : Psbt) (a b : List Input) → AreInputs verification psbt a → AreInputs verification psbt b → a ≡ b
+one_inputs verification psbt a b h k = one_list a b (h.spends ∙ sym k.spends) h.read k.read
 
 -- the input with a number, once it is read
 read_at : (inputs : List Input) (spends : List Spend) (number : ℕ) (input : Input) → map (λ input. input.spend) inputs ≡ spends → All HasReading inputs
@@ -61,14 +62,14 @@ read_at (x ∷ xs) (spend ∷ spends) (suc number) input e h is read =
     read_at xs spends number input rest (λ i d lt. h (suc i) d (omega arith)) is read
 read_at inputs spends number input e h is read = absurd cc
 
-pub input_at : (psbt : Psbt) (inputs : List Input) (number : ℕ) (input : Input) → AreInputs psbt inputs
-    → slice_get (spends_of psbt) number ≡ Some input.spend → HasReading input → slice_get inputs number ≡ Some input
-input_at psbt inputs number input are is read = read_at inputs (spends_of psbt) number input are.spends are.read is read
+pub input_at : (verification : Verification) (psbt : Psbt) (inputs : List Input) (number : ℕ) (input : Input) → AreInputs verification psbt inputs
+    → slice_get (spends_of verification psbt) number ≡ Some input.spend → HasReading input → slice_get inputs number ≡ Some input
+input_at verification psbt inputs number input are is read = read_at inputs (spends_of verification psbt) number input are.spends are.read is read
 
 -- ---- the answer
 
 one_source : (command : Command) (form : Form) (o : Result Psbt Refusal) (a b : Reply) → RepliesToSource command form o a → RepliesToSource command form o b → a ≡ b
-one_source command form (Ok psbt) a b (xs, h, e) (ys, k, f) = e ∙ ap (command_reply command form psbt) (one_inputs psbt xs ys h k) ∙ sym f
+one_source command form (Ok psbt) a b (xs, h, e) (ys, k, f) = e ∙ ap (command_reply command form psbt) (one_inputs (verification_of command) psbt xs ys h k) ∙ sym f
 one_source command form (Err refusal) a b e f = e ∙ sym f
 
 one_reply : (request : Option Request) (source : Bytes) (a b : Reply) → RepliesToWords request source a → RepliesToWords request source b → a ≡ b

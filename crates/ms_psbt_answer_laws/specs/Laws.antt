@@ -2,6 +2,7 @@
 use Rattle.std.specs.Prelude.{◌≡◌, false, List, All, filter}
 use Rattle.def_script.specs.Bytes.{Bytes}
 use Rattle.def_psbt.specs.Map.{Psbt}
+use Rattle.def_spend.specs.declared.Verification.{Verification}
 use Rattle.def_spend.specs.Reading.{Input, HasReading, AreInputs}
 use Rattle.def_spend.specs.States.{state_of, is_ready}
 use Rattle.def_spend.specs.Finalized.{is_kept, written_map, finalized}
@@ -14,8 +15,8 @@ OneAnswer =
     (words : List Bytes) (source : Bytes) (s t : Status) (p q : Bytes) →
     Answer words source s p → Answer words source t q → (s ≡ t) × (p ≡ q)
 
--- the transaction, its number and its map alone determine what an input is read as, and so its state, its witness and
--- its hashes
+-- the transaction, its number, its map and which signatures count alone determine what an input is read as, and so its state, its
+-- witness and its hashes
 abbrev pub OneReading : Type 0
 OneReading = (input other : Input) → HasReading input → HasReading other → input.spend ≡ other.spend → input ≡ other
 
@@ -32,8 +33,8 @@ KeepsPairs = (input : Input) → filter is_kept (written_map input) ≡ filter i
 -- the inputs of what was written, each read again
 abbrev pub OfWritten : (Psbt → List Input → List Input → Type 0) → Type 0
 OfWritten Holds =
-    (psbt : Psbt) (inputs again : List Input) → AreInputs psbt inputs → AreInputs (finalized psbt inputs) again →
-    Holds psbt inputs again
+    (verification : Verification) (psbt : Psbt) (inputs again : List Input) → AreInputs verification psbt inputs →
+    AreInputs verification (finalized psbt inputs) again → Holds psbt inputs again
 
 -- none of them is Ready
 abbrev pub NoneIsReady : Type 0

@@ -8,12 +8,17 @@ use Rattle.def_psbt.specs.Examples.{TWO_OF_THREE, NO_INPUTS, BARE}
 use Rattle.def_answer.specs.Samples.{A, B, C, lines}
 use Rattle.def_psbt_answer.specs.declared.status.Status.{Status}
 use Rattle.def_psbt_answer.specs.declared.status.Status.TheVariants as status
+use Rattle.def_psbt_answer.specs.Words.{OPTION}
 use Rattle.def_psbt_answer.specs.Answer.{Answer}
 use Rattle.def_psbt_answer.specs.Samples.{pair, sig_a, sig_b, sig_c, signed_a, signed_b, signed_c, asking, derived, two_of_three, later_key, one_or_two, key_or_lock, with_sequence, with_map, second_with, kept, final_two_of_three, spent_two_of_three}
 
 -- the answer to a word
 abbrev pub Answers : (word : Bytes) → (source : Bytes) → Status → (report : Bytes) → Type 0
 Answers word source status report = Answer (word ∷ []) source status report
+
+-- and to one with the option behind it: no signature is looked at
+abbrev pub AnswersUnverified : (word : Bytes) → (source : Bytes) → Status → (report : Bytes) → Type 0
+AnswersUnverified word source status report = Answer (word ∷ OPTION ∷ []) source status report
 
 -- an output that is P2SH of the program of `multi(2,A,B,C)`, that program as its redeem script, the witness script, and the one push
 -- of the redeem script
@@ -36,6 +41,8 @@ NoForm =
     Answer [] BARE status.Usage (codes "refused usage\n")
     × Answers (codes "Finalize") BARE status.Usage (codes "refused usage\n")
     × Answer (codes "inspect" ∷ codes "inspect" ∷ []) BARE status.Usage (codes "refused usage\n")
+    × Answer (OPTION ∷ codes "inspect" ∷ []) BARE status.Usage (codes "refused usage\n")
+    × AnswersUnverified (codes "extract") BARE status.Usage (codes "refused usage\n")
 
 abbrev pub Refused : Type 0
 Refused =
@@ -46,7 +53,7 @@ Refused =
 -- ---- inspect
 
 abbrev pub Inspects : (source : Bytes) → Status → (report : List Bytes) → Type 0
-Inspects source status report = Answers (codes "inspect") source status (lines report)
+Inspects source status report = AnswersUnverified (codes "inspect") source status (lines report)
 
 -- the first lines of a PSBT with the usual transaction, and those of an input that spends 100,000
 abbrev pub usual : (fee : Bytes) → List Bytes
@@ -171,17 +178,17 @@ InspectNested =
 -- the PSBT is written as bytes, or as base64
 abbrev pub FinalizesTwoOfThree : Type 0
 FinalizesTwoOfThree =
-    Answers (codes "finalize") TWO_OF_THREE status.Done (with_map (spent_two_of_three ∷ kept ∷ final_two_of_three ∷ []))
+    AnswersUnverified (codes "finalize") TWO_OF_THREE status.Done (with_map (spent_two_of_three ∷ kept ∷ final_two_of_three ∷ []))
 
 -- P2SH of it is spent with the one push of the redeem script
 abbrev pub FinalizesNested : Type 0
 FinalizesNested =
-    Answers (codes "finalize") (with_map (nested_two_of_three ∷ script_two_of_three ∷ signed_c 1 ∷ redeem_two_of_three ∷ signed_a 1 ∷ kept ∷ [])) status.Done
+    AnswersUnverified (codes "finalize") (with_map (nested_two_of_three ∷ script_two_of_three ∷ signed_c 1 ∷ redeem_two_of_three ∷ signed_a 1 ∷ kept ∷ [])) status.Done
     (with_map (nested_two_of_three ∷ kept ∷ nested_script_sig ∷ final_two_of_three ∷ []))
 
 abbrev pub FinalizesBase64 : Type 0
 FinalizesBase64 =
-    Answers (codes "finalize")
+    AnswersUnverified (codes "finalize")
     (codes "cHNidP8BAFICAAAAAQUFBQUFBQUFBQUFBQUFBQUFBQUFBQUFBQUFBQUFBQUFAAAAAAD+////AZBfAQAAAAAAFgAUBwcHBwcHBwcHBwcHBwcHBwcHBwcAAAAAAAEBK6CGAQAAAAAAIgAg31M6uXeV5yws8ImJv10TPyBj/4H9PZJ6QylPYlVxZVsBBWlSIQIBAQEBAQEBAQEBAQEBAQEBAQEBAQEBAQEBAQEBAQEBASECeb5mfvncu6xVoGKVzocLBwKb/NstzijZWfKBWxb4F5ghAwMDAwMDAwMDAwMDAwMDAwMDAwMDAwMDAwMDAwMDAwMDU64iAgMDAwMDAwMDAwMDAwMDAwMDAwMDAwMDAwMDAwMDAwMDA0YwQwIfHBwcHBwcHBwcHBwcHBwcHBwcHBwcHBwcHBwcHBwcHAIgLCwsLCwsLCwsLCwsLCwsLCwsLCwsLCwsLCwsLCwsLCwBIgICAQEBAQEBAQEBAQEBAQEBAQEBAQEBAQEBAQEBAQEBAQFHMEQCIBoaGhoaGhoaGhoaGhoaGhoaGhoaGhoaGhoaGhoaGhoaAiAqKioqKioqKioqKioqKioqKioqKioqKioqKioqKioqKgEiBgIBAQEBAQEBAQEBAQEBAQEBAQEBAQEBAQEBAQEBAQEBAQjerb7vMAAAgAEDBAEAAAAEQG5ldwRrZXB0AAA=")
     status.Done
     (lines (codes "cHNidP8BAFICAAAAAQUFBQUFBQUFBQUFBQUFBQUFBQUFBQUFBQUFBQUFBQUFAAAAAAD+////AZBfAQAAAAAAFgAUBwcHBwcHBwcHBwcHBwcHBwcHBwcAAAAAAAEBK6CGAQAAAAAAIgAg31M6uXeV5yws8ImJv10TPyBj/4H9PZJ6QylPYlVxZVsEQG5ldwRrZXB0AQj7BABHMEQCIBoaGhoaGhoaGhoaGhoaGhoaGhoaGhoaGhoaGhoaGhoaAiAqKioqKioqKioqKioqKioqKioqKioqKioqKioqKioqKgFGMEMCHxwcHBwcHBwcHBwcHBwcHBwcHBwcHBwcHBwcHBwcHBwCICwsLCwsLCwsLCwsLCwsLCwsLCwsLCwsLCwsLCwsLCwsAWlSIQIBAQEBAQEBAQEBAQEBAQEBAQEBAQEBAQEBAQEBAQEBASECeb5mfvncu6xVoGKVzocLBwKb/NstzijZWfKBWxb4F5ghAwMDAwMDAwMDAwMDAwMDAwMDAwMDAwMDAwMDAwMDAwMDU64AAA==" ∷ []))
@@ -190,11 +197,11 @@ FinalizesBase64 =
 -- aren't final, and are cleared
 abbrev pub FinalizesOthers : Type 0
 FinalizesOthers =
-    Answers (codes "finalize") (with_map (two_of_three ∷ signed_c 1 ∷ [])) status.Open (with_map (two_of_three ∷ signed_c 1 ∷ []))
-    × Answers (codes "finalize")
+    AnswersUnverified (codes "finalize") (with_map (two_of_three ∷ signed_c 1 ∷ [])) status.Open (with_map (two_of_three ∷ signed_c 1 ∷ []))
+    × AnswersUnverified (codes "finalize")
     (with_map (pair (0x07 ∷ []) [] ∷ two_of_three ∷ pair (0x08 ∷ []) (0x00 ∷ []) ∷ signed_a 1 ∷ signed_c 1 ∷ [])) status.Done
     (with_map (spent_two_of_three ∷ final_two_of_three ∷ []))
-    × Answers (codes "finalize") NO_INPUTS status.Done NO_INPUTS
+    × AnswersUnverified (codes "finalize") NO_INPUTS status.Done NO_INPUTS
 
 -- ---- extract
 
@@ -222,7 +229,7 @@ NotFinal =
 -- two inputs: SINGLE is asked of the first, whose signatures have other types, and nothing of the second
 abbrev pub HashesOfTypes : Type 0
 HashesOfTypes =
-    Answers (codes "hashes")
+    AnswersUnverified (codes "hashes")
     (from_hex "70736274ff01007b020000000205050505050505050505050505050505050505050505050505050505050505050000000000feffffff050505050505050505050505050505050505050505050505050505050505050501000000000700000001905f010000000000160014070707070707070707070707070707070707070700000000"
     ++ 0x00 ∷ two_of_three ++ signed_a 0x83 ++ signed_b 0x02 ++ signed_c 0x00 ++ asking 3
     ++ 0x00 ∷ two_of_three ++ signed_a 0x03 ++ signed_b 0x81 ++ 0x00 ∷ 0x00 ∷ []) status.Done

@@ -18,9 +18,10 @@ use Rattle.def_psbt.specs.Source.{MAX_SOURCE_SIZE, psbt_of}
 use Rattle.def_psbt.specs.Laws.{WrittenIsReadBack}
 use Rattle.def_spend.specs.declared.State.TheVariants as state
 use Rattle.def_spend.specs.Fields.{FINAL_SCRIPTSIG, FINAL_SCRIPTWITNESS, has_type, field}
+use Rattle.def_spend.specs.declared.Verification.{Verification}
 use Rattle.def_spend.specs.Input.{Spend, spends_from, spends_of}
 use Rattle.def_spend.specs.Reading.{Input, has_byte, has_item, has_final, open_script, HasReading, AreInputs}
-use Rattle.def_spend.specs.States.{state_by, state_of, is_final, is_ready, stack_of}
+use Rattle.def_spend.specs.States.{state_by, state_of, is_final, is_ready}
 use Rattle.def_spend.specs.Finalized.{is_cleared, is_kept, final_pairs, final_map, script_sig_of, witness_of, written_map, finalized}
 use Rattle.def_psbt_answer.specs.declared.status.Status.TheVariants as status
 use Rattle.def_psbt_answer.specs.declared.words.Command.TheVariants as command
@@ -101,8 +102,8 @@ some_item w items read some = false_from_ne_true _ (λ e.
 
 made_final : (input : Input) → IsFinalWitness input → has_final (map_made input) ≡ true
 made_final input w =
-    let items = items_back (all_items (stack_of input) w.script) (are_items (stack_of input) w.script w.fits) in
-    let other = some_item (witness_of input) (all_items (stack_of input) w.script) (ap forms.witness_of w.is ∙ items) (omega (arith, length-append (stack_of input) (w.script ∷ []))) in
+    let items = items_back (all_items w.stack w.last) (are_items w.stack w.last w.fits) in
+    let other = some_item (witness_of input) (all_items w.stack w.last) (ap forms.witness_of w.is ∙ items) (omega (arith, length-append w.stack (w.last ∷ []))) in
     let item : has_item (field FINAL_SCRIPTWITNESS (map_made input)) ≡ true =
     ap has_item (final_field input.spend.fields (script_sig_of input.spend) (witness_of input)) ∙ ap not other in
     ap (λ b. has_byte (field FINAL_SCRIPTSIG (map_made input)) || b) item ∙ or-true (has_byte (field FINAL_SCRIPTSIG (map_made input)))
@@ -142,43 +143,44 @@ settled_again input again given read same = go (is_ready (state_of input)) refl
         let two : is_settled input ≡ true = ap (λ b. is_final (state_of input) || b) e ∙ or-true (is_final (state_of input)) in
         one ∙ sym two
 
-all_settled : (transaction : Transaction) (number : ℕ) (ins : List TransactionInput) (maps : List Map) (xs ys : List Input)
-    → map (λ input. input.spend) xs ≡ spends_from transaction number ins maps
-    → map (λ input. input.spend) ys ≡ spends_from transaction number ins (map written_map xs)
+all_settled : (verification : Verification) (transaction : Transaction) (number : ℕ) (ins : List TransactionInput) (maps : List Map) (xs ys : List Input)
+    → map (λ input. input.spend) xs ≡ spends_from verification transaction number ins maps
+    → map (λ input. input.spend) ys ≡ spends_from verification transaction number ins (map written_map xs)
     → AllByRecursion IsGiven xs → AllByRecursion HasReading ys → list_all is_settled ys ≡ list_all is_settled xs
-all_settled transaction number [] maps [] [] e f h k = refl
-all_settled transaction number (i ∷ ins) [] [] [] e f h k = refl
-all_settled transaction number (i ∷ ins) (m ∷ maps) (x ∷ xs) (y ∷ ys) e f h k =
-    let here : x.spend ≡ record { transaction = transaction; number = number; input = i; fields = m } = cc in
-    let there : y.spend ≡ record { transaction = transaction; number = number; input = i; fields = written_map x } = cc in
-    let rest : map (λ input. input.spend) xs ≡ spends_from transaction (number + 1) ins maps = cc in
-    let behind : map (λ input. input.spend) ys ≡ spends_from transaction (number + 1) ins (map written_map xs) = cc in
+all_settled verification transaction number [] maps [] [] e f h k = refl
+all_settled verification transaction number (i ∷ ins) [] [] [] e f h k = refl
+all_settled verification transaction number (i ∷ ins) (m ∷ maps) (x ∷ xs) (y ∷ ys) e f h k =
+    let here : x.spend ≡ record { verification = verification; transaction = transaction; number = number; input = i; fields = m } = cc in
+    let there : y.spend ≡ record { verification = verification; transaction = transaction; number = number; input = i; fields = written_map x } = cc in
+    let rest : map (λ input. input.spend) xs ≡ spends_from verification transaction (number + 1) ins maps = cc in
+    let behind : map (λ input. input.spend) ys ≡ spends_from verification transaction (number + 1) ins (map written_map xs) = cc in
     let same = there ∙ ap (λ spend. with_fields spend (written_map x)) (sym here) in
     let first = settled_again x y h.0 k.0 same in
-    let others = all_settled transaction (number + 1) ins maps xs ys rest behind h.1 k.1 in
+    let others = all_settled verification transaction (number + 1) ins maps xs ys rest behind h.1 k.1 in
     ap (λ b. b && list_all is_settled ys) first ∙ ap (λ b. is_settled x && b) others
-all_settled transaction number ins maps xs ys e f h k = absurd cc
+all_settled verification transaction number ins maps xs ys e f h k = absurd cc
 
 -- ---- the source
 
 -- the report of a PSBT, read as a source
-report_read : EachIsSound → WrittenIsReadBack → (source : Bytes) (psbt : Psbt) → IsBytes source → psbt_of source ≡ Ok psbt → (inputs : List Input) → AreInputs psbt inputs
+report_read : EachIsSound → WrittenIsReadBack → (source : Bytes) (psbt : Psbt) → IsBytes source → psbt_of source ≡ Ok psbt
+    → (verification : Verification) (inputs : List Input) → AreInputs verification psbt inputs
     → (form : Form) → length (finalize_report form psbt inputs) ≤ MAX_SOURCE_SIZE → psbt_of (finalize_report form psbt inputs) ≡ Ok (finalized psbt inputs)
 unfolding finalize_report
-report_read law back source psbt fits e inputs are form short =
-    let whole = whole_again law source psbt fits e inputs are in
+report_read law back source psbt fits e verification inputs are form short =
+    let whole = whole_again law source psbt fits e verification inputs are in
     source_back form psbt.global (map written_map inputs) psbt.outputs (finalized psbt inputs) (text_fits (finalized psbt inputs) whole) short
-    (written_is_read law back source psbt fits e inputs are)
+    (written_is_read law back source psbt fits e verification inputs are)
 
 pub report_is_source : EachIsSound → WrittenIsReadBack → ReportIsSource
-report_is_source law back source psbt fits e inputs are form short = record {
+report_is_source law back source psbt fits e verification inputs are form short = record {
   written = finalized psbt inputs;
-  read = report_read law back source psbt fits e inputs are form short;
+  read = report_read law back source psbt fits e verification inputs are form short;
   transaction = refl;
   global = refl;
   outputs = refl;
   maps = refl;
-  none_ready = λ again h. none_is_ready psbt inputs again are h;
+  none_ready = λ again h. none_is_ready verification psbt inputs again are h;
 }
 
 -- ---- the answer
@@ -199,30 +201,31 @@ unfolding finalize_report
 report_again psbt inputs again form same = ap (λ (maps : List Map). in_form form (psbt_text psbt.global maps psbt.outputs)) (sym same)
 
 pub answered_again : EachIsSound → WrittenIsReadBack → AnsweredAgain
-answered_again law back words source psbt now report fits named given short answer =
-    let replies : RepliesToWords (Some (request.One command.Finalize)) source (reply now report) = subst (λ c. RepliesToWords c source (reply now report)) named answer.replies in
-    let found : RepliesToPsbt command.Finalize (form_of source) psbt (reply now report) = subst (λ o. RepliesToSource command.Finalize (form_of source) o (reply now report)) given replies in
-    let are : AreInputs psbt found.0 = found.1 in
+answered_again law back words verification source psbt now report fits named given short answer =
+    let replies : RepliesToWords (Some (request.One (command.Finalize verification))) source (reply now report) = subst (λ c. RepliesToWords c source (reply now report)) named answer.replies in
+    let found : RepliesToPsbt (command.Finalize verification) (form_of source) psbt (reply now report) =
+    subst (λ o. RepliesToSource (command.Finalize verification) (form_of source) o (reply now report)) given replies in
+    let are : AreInputs verification psbt found.0 = found.1 in
     let form : Form = form_of source in
     let told : now ≡ settled_status found.0 = ap (λ r. r.status) found.2 in
     let shown : report ≡ finalize_report (form_of source) psbt found.0 = ap (λ r. r.report) found.2 in
     let final : Psbt = finalized psbt found.0 in
-    let whole = whole_again law source psbt fits given found.0 are in
+    let whole = whole_again law source psbt fits given verification found.0 are in
     let read : psbt_of report ≡ Ok (finalized psbt found.0) =
-    ap psbt_of shown ∙ report_read law back source psbt fits given found.0 are form (subst (λ (l : Bytes). length l ≤ MAX_SOURCE_SIZE) shown short) in
-    let are_again : AreInputs final (inputs_found final) =
-    are_inputs final (All-from_recursion HasKeys (spends_of final) (each_has_keys (spends_of final) (places final whole))) in
-    let each = recursion_from_All IsGiven found.0 (of_each law IsGiven (λ input g. g) source psbt fits given found.0 are) in
-    let settled = all_settled psbt.transaction 0 psbt.transaction.inputs psbt.inputs found.0 (inputs_found final) are.spends are_again.spends each
-    (recursion_from_All HasReading (inputs_found final) are_again.read) in
-    let same_status : now ≡ settled_status (inputs_found final) = told ∙ ap (λ b. if b then status.Done else status.Open) (sym settled) in
+    ap psbt_of shown ∙ report_read law back source psbt fits given verification found.0 are form (subst (λ (l : Bytes). length l ≤ MAX_SOURCE_SIZE) shown short) in
+    let are_again : AreInputs verification final (inputs_found verification final) =
+    are_inputs verification final (All-from_recursion HasKeys (spends_of verification final) (each_has_keys (spends_of verification final) (places verification final whole))) in
+    let each = recursion_from_All IsGiven found.0 (of_each law IsGiven (λ input g. g) source psbt fits given verification found.0 are) in
+    let settled = all_settled verification psbt.transaction 0 psbt.transaction.inputs psbt.inputs found.0 (inputs_found verification final) are.spends are_again.spends each
+    (recursion_from_All HasReading (inputs_found verification final) are_again.read) in
+    let same_status : now ≡ settled_status (inputs_found verification final) = told ∙ ap (λ b. if b then status.Done else status.Open) (sym settled) in
     let same_form : form_of report ≡ form_of source = ap form_of shown ∙ report_form psbt found.0 form in
-    let same_report : report ≡ finalize_report (form_of report) final (inputs_found final) =
-    shown ∙ report_again psbt found.0 (inputs_found final) form (written_again psbt found.0 (inputs_found final) are are_again)
-    ∙ ap (λ f. finalize_report f final (inputs_found final)) (sym same_form) in
-    let is : reply now report ≡ command_reply command.Finalize (form_of report) final (inputs_found final) =
-    ap (λ s. reply s report) same_status ∙ ap (reply (settled_status (inputs_found final))) same_report in
-    let by_psbt : RepliesToSource command.Finalize (form_of report) (Ok final) (reply now report) = (inputs_found final, are_again, is) in
-    let by_source : RepliesToWords (Some (request.One command.Finalize)) report (reply now report) =
-    subst (λ o. RepliesToSource command.Finalize (form_of report) o (reply now report)) (sym read) by_psbt in
+    let same_report : report ≡ finalize_report (form_of report) final (inputs_found verification final) =
+    shown ∙ report_again psbt found.0 (inputs_found verification final) form (written_again verification psbt found.0 (inputs_found verification final) are are_again)
+    ∙ ap (λ f. finalize_report f final (inputs_found verification final)) (sym same_form) in
+    let is : reply now report ≡ command_reply (command.Finalize verification) (form_of report) final (inputs_found verification final) =
+    ap (λ s. reply s report) same_status ∙ ap (reply (settled_status (inputs_found verification final))) same_report in
+    let by_psbt : RepliesToSource (command.Finalize verification) (form_of report) (Ok final) (reply now report) = (inputs_found verification final, are_again, is) in
+    let by_source : RepliesToWords (Some (request.One (command.Finalize verification))) report (reply now report) =
+    subst (λ o. RepliesToSource (command.Finalize verification) (form_of report) o (reply now report)) (sym read) by_psbt in
     record { replies = subst (λ c. RepliesToWords c report (reply now report)) (sym named) by_source }

@@ -11,18 +11,18 @@ use Rattle.def_psbt_answer.specs.declared.words.Request.TheVariants as request
 use Rattle.def_psbt_answer.specs.Words.{request_of}
 use Rattle.def_psbt_answer.specs.declared.words.Form.{Form}
 use Rattle.def_psbt_answer.specs.Reply.{Reply, usage_reply, refusal_reply, form_of, command_reply, combine_reply}
-use Rattle.def_psbt_answer.specs.Answer.{RepliesToSource, RepliesToWords}
+use Rattle.def_psbt_answer.specs.Answer.{verification_of, RepliesToSource, RepliesToWords}
 use Rattle.ms_psbt_answer_laws.proofs.Answered.{inputs_found, are_inputs}
 use Rattle.ms_given_laws.specs.Given.{EachHasKeys}
 use Rattle.ms_psbt_laws.specs.Existence.{EachHasAnswer, EachIsRead}
 
 pub each_is_read : EachHasKeys → EachIsRead
-each_is_read law source psbt fits e = (inputs_found psbt, are_inputs psbt (law source psbt fits e))
+each_is_read law source psbt fits e verification = (inputs_found verification psbt, are_inputs verification psbt (law source psbt fits e verification))
 
 source_reply : EachHasKeys → (command : Command) (form : Form) (source : Bytes) → IsBytes source → (o : Result Psbt Refusal) → psbt_of source ≡ o
     → (r : Reply) × RepliesToSource command form o r
 source_reply law command form source fits (Ok psbt) e =
-    let inputs = each_is_read law source psbt fits e in
+    let inputs = each_is_read law source psbt fits e (verification_of command) in
     (command_reply command form psbt inputs.0, (inputs.0, inputs.1, refl))
 source_reply law command form source fits (Err refusal) e = (refusal_reply refusal, refl)
 

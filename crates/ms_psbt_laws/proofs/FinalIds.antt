@@ -13,8 +13,9 @@ use Rattle.def_spend.specs.declared.Kind.TheVariants as kind
 use Rattle.def_spend.specs.declared.State.{State}
 use Rattle.def_spend.specs.declared.State.TheVariants as state
 use Rattle.def_spend.specs.Fields.{FINAL_SCRIPTSIG, REDEEM_SCRIPT, WITNESS_SCRIPT, field}
+use Rattle.def_spend.specs.declared.Verification.{Verification}
 use Rattle.def_spend.specs.Input.{Spend, spends_from, spends_of}
-use Rattle.def_spend.specs.Kinds.{is_script_hash, is_nested, kind_with, spent_utxo, spent_program, script_sig_by, open_script_sig}
+use Rattle.def_spend.specs.Kinds.{is_script_hash, is_key_hash, is_nested, kind_with, spent_utxo, spent_program, script_sig_by, open_script_sig}
 use Rattle.def_spend.specs.Reading.{Input, has_byte, has_final, script_with, open_script, script_code}
 use Rattle.def_spend.specs.States.{state_of, is_final, is_ready}
 use Rattle.def_spend.specs.Finalized.{script_sig_of, written_map, finalized, final_input, final_inputs, final_transaction, known_script_sig, known_input, known_inputs, are_known, has_script_sig, final_id}
@@ -22,11 +23,10 @@ use Rattle.ms_psbt_answer_laws.proofs.Sane.{final_state}
 use Rattle.ms_psbt_answer_laws.proofs.Written.{leaves_others}
 use Rattle.ms_given_laws.specs.Given.{EachIsSound}
 use Rattle.ms_spend_laws.proofs.Inputs.{IsGiven, of_each}
-use Rattle.ms_spend_laws.proofs.States.{opens}
+use Rattle.ms_spend_laws.proofs.States.{opens, ready_is}
 use Rattle.ms_psbt_laws.specs.Network.{IdIsTold, FinalIdStays}
 use Rattle.ms_psbt_laws.proofs.Again.{is_made_final}
 use Rattle.ms_psbt_laws.proofs.NetworkTexts.{bare_inputs, same_inputs}
-use Rattle.ms_psbt_laws.proofs.Sounding.{ready_is}
 
 -- ---- inputs with the same final scriptSigs
 
@@ -65,65 +65,65 @@ sig_in fields = unwrap_or (field FINAL_SCRIPTSIG fields) []
 known_of_map : (spend : Spend) → IsFinalMap spend.fields → known_script_sig spend ≡ Some (sig_in spend.fields)
 known_of_map spend final = ap (λ b. if b then Some (sig_in spend.fields) else open_script_sig spend) final
 
-known_is_final : (transaction : Transaction) (number : ℕ) (ins : List TransactionInput) (maps : List Map) → AllByRecursion IsFinalMap maps
-    → known_inputs (spends_from transaction number ins maps) ≡ final_inputs ins maps
-known_is_final transaction number [] maps final = refl
-known_is_final transaction number (input ∷ ins) [] final = refl
-known_is_final transaction number (input ∷ ins) (fields ∷ maps) final =
-    let spend : Spend = record { transaction = transaction; number = number; input = input; fields = fields } in
-    ap (λ (o : Option Bytes). record input { script_sig = unwrap_or o [] } ∷ known_inputs (spends_from transaction (number + 1) ins maps)) (known_of_map spend final.0)
-    ∙ ap (λ (is : List TransactionInput). final_input input fields ∷ is) (known_is_final transaction (number + 1) ins maps final.1)
+known_is_final : (verification : Verification) (transaction : Transaction) (number : ℕ) (ins : List TransactionInput) (maps : List Map) → AllByRecursion IsFinalMap maps
+    → known_inputs (spends_from verification transaction number ins maps) ≡ final_inputs ins maps
+known_is_final verification transaction number [] maps final = refl
+known_is_final verification transaction number (input ∷ ins) [] final = refl
+known_is_final verification transaction number (input ∷ ins) (fields ∷ maps) final =
+    let spend : Spend = record { verification = verification; transaction = transaction; number = number; input = input; fields = fields } in
+    ap (λ (o : Option Bytes). record input { script_sig = unwrap_or o [] } ∷ known_inputs (spends_from verification transaction (number + 1) ins maps)) (known_of_map spend final.0)
+    ∙ ap (λ (is : List TransactionInput). final_input input fields ∷ is) (known_is_final verification transaction (number + 1) ins maps final.1)
 
-all_known : (transaction : Transaction) (number : ℕ) (ins : List TransactionInput) (maps : List Map) → AllByRecursion IsFinalMap maps
-    → are_known (spends_from transaction number ins maps) ≡ true
-all_known transaction number [] maps final = refl
-all_known transaction number (input ∷ ins) [] final = refl
-all_known transaction number (input ∷ ins) (fields ∷ maps) final =
-    let spend : Spend = record { transaction = transaction; number = number; input = input; fields = fields } in
-    ap (λ (o : Option Bytes). is_some o && are_known (spends_from transaction (number + 1) ins maps)) (known_of_map spend final.0)
-    ∙ all_known transaction (number + 1) ins maps final.1
+all_known : (verification : Verification) (transaction : Transaction) (number : ℕ) (ins : List TransactionInput) (maps : List Map) → AllByRecursion IsFinalMap maps
+    → are_known (spends_from verification transaction number ins maps) ≡ true
+all_known verification transaction number [] maps final = refl
+all_known verification transaction number (input ∷ ins) [] final = refl
+all_known verification transaction number (input ∷ ins) (fields ∷ maps) final =
+    let spend : Spend = record { verification = verification; transaction = transaction; number = number; input = input; fields = fields } in
+    ap (λ (o : Option Bytes). is_some o && are_known (spends_from verification transaction (number + 1) ins maps)) (known_of_map spend final.0)
+    ∙ all_known verification transaction (number + 1) ins maps final.1
 
 bare_of : (o : Option Bytes) → has_byte (Some (unwrap_or o [])) ≡ false → has_byte o ≡ false
 bare_of None e = refl
 bare_of (Some value) e = e
 
 -- where no final scriptSig has a byte, none of the maps has one
-none_has_byte : (transaction : Transaction) (number : ℕ) (ins : List TransactionInput) (maps : List Map) → length maps ≡ length ins
-    → AllByRecursion IsFinalMap maps → has_script_sig (spends_from transaction number ins maps) ≡ false
+none_has_byte : (verification : Verification) (transaction : Transaction) (number : ℕ) (ins : List TransactionInput) (maps : List Map) → length maps ≡ length ins
+    → AllByRecursion IsFinalMap maps → has_script_sig (spends_from verification transaction number ins maps) ≡ false
     → AllByRecursion (λ fields. has_byte (field FINAL_SCRIPTSIG fields) ≡ false) maps
-none_has_byte transaction number ins [] same final e = tt
-none_has_byte transaction number [] (fields ∷ maps) same final e = absurd (omega (arith, same))
-none_has_byte transaction number (input ∷ ins) (fields ∷ maps) same final e =
-    let spend : Spend = record { transaction = transaction; number = number; input = input; fields = fields } in
-    let rest : List Spend = spends_from transaction (number + 1) ins maps in
+none_has_byte verification transaction number ins [] same final e = tt
+none_has_byte verification transaction number [] (fields ∷ maps) same final e = absurd (omega (arith, same))
+none_has_byte verification transaction number (input ∷ ins) (fields ∷ maps) same final e =
+    let spend : Spend = record { verification = verification; transaction = transaction; number = number; input = input; fields = fields } in
+    let rest : List Spend = spends_from verification transaction (number + 1) ins maps in
     let parts = or_parts (has_byte (known_script_sig spend)) (has_script_sig rest) e in (
       bare_of (field FINAL_SCRIPTSIG fields) (sym (ap has_byte (known_of_map spend final.0)) ∙ parts.0),
-      none_has_byte transaction (number + 1) ins maps (omega (arith, same)) final.1 parts.1,
+      none_has_byte verification transaction (number + 1) ins maps (omega (arith, same)) final.1 parts.1,
     )
 
 -- so the map of each Final input is
-all_final : (transaction : Transaction) (number : ℕ) (ins : List TransactionInput) (maps : List Map) (inputs : List Input) → length maps ≡ length ins
-    → map (λ (input : Input). input.spend) inputs ≡ spends_from transaction number ins maps
+all_final : (verification : Verification) (transaction : Transaction) (number : ℕ) (ins : List TransactionInput) (maps : List Map) (inputs : List Input) → length maps ≡ length ins
+    → map (λ (input : Input). input.spend) inputs ≡ spends_from verification transaction number ins maps
     → AllByRecursion (λ (input : Input). is_final (state_of input) ≡ true) inputs → AllByRecursion IsFinalMap maps
-all_final transaction number ins [] inputs same e final = tt
-all_final transaction number [] (fields ∷ maps) inputs same e final = absurd (omega (arith, same))
-all_final transaction number (i ∷ ins) (fields ∷ maps) [] same e final = absurd cc
-all_final transaction number (i ∷ ins) (fields ∷ maps) (input ∷ inputs) same e final =
-    let here : input.spend ≡ record { transaction = transaction; number = number; input = i; fields = fields } = cc in
-    let rest : map (λ (input : Input). input.spend) inputs ≡ spends_from transaction (number + 1) ins maps = cc in (
+all_final verification transaction number ins [] inputs same e final = tt
+all_final verification transaction number [] (fields ∷ maps) inputs same e final = absurd (omega (arith, same))
+all_final verification transaction number (i ∷ ins) (fields ∷ maps) [] same e final = absurd cc
+all_final verification transaction number (i ∷ ins) (fields ∷ maps) (input ∷ inputs) same e final =
+    let here : input.spend ≡ record { verification = verification; transaction = transaction; number = number; input = i; fields = fields } = cc in
+    let rest : map (λ (input : Input). input.spend) inputs ≡ spends_from verification transaction (number + 1) ins maps = cc in (
       sym (ap (λ (spend : Spend). has_final spend.fields) here) ∙ sym (final_state input) ∙ final.0,
-      all_final transaction (number + 1) ins maps inputs (omega (arith, same)) rest final.1,
+      all_final verification transaction (number + 1) ins maps inputs (omega (arith, same)) rest final.1,
     )
 
 pub id_is_told : EachIsSound → IdIsTold
-id_is_told law source psbt fits e inputs are all =
+id_is_told law source psbt fits e counted inputs are all verification =
     let sound = (law source psbt fits e).sound in
     let each = recursion_from_All (λ (input : Input). is_final (state_of input) ≡ true) inputs all in
-    let final = all_final psbt.transaction 0 psbt.transaction.inputs psbt.inputs inputs (as_many_inputs psbt sound) are.spends each in
+    let final = all_final counted psbt.transaction 0 psbt.transaction.inputs psbt.inputs inputs (as_many_inputs psbt sound) are.spends each in
     go sound final (has_script_sig spends) refl
   where
     spends : List Spend
-    spends = spends_of psbt
+    spends = spends_of verification psbt
 
     own : Transaction
     own = psbt.transaction
@@ -131,14 +131,14 @@ id_is_told law source psbt fits e inputs are all =
     go : IsSound psbt → AllByRecursion IsFinalMap psbt.inputs → (b : Bool) → has_script_sig spends ≡ b
         → id_of (final_transaction psbt) ≡ unwrap_or (final_id own spends) (id_of own)
     go sound final true some =
-        ap (λ (ins : List TransactionInput). id_of (record own { inputs = ins })) (sym (known_is_final own 0 own.inputs psbt.inputs final))
-        ∙ sym (ap (λ b. unwrap_or (id_by b (has_script_sig spends) own (known_inputs spends)) (id_of own)) (all_known own 0 own.inputs psbt.inputs final)
+        ap (λ (ins : List TransactionInput). id_of (record own { inputs = ins })) (sym (known_is_final verification own 0 own.inputs psbt.inputs final))
+        ∙ sym (ap (λ b. unwrap_or (id_by b (has_script_sig spends) own (known_inputs spends)) (id_of own)) (all_known verification own 0 own.inputs psbt.inputs final)
         ∙ ap (λ b. unwrap_or (id_by true b own (known_inputs spends)) (id_of own)) some)
     go sound final false none =
-        let bare = none_has_byte own 0 own.inputs psbt.inputs (as_many_inputs psbt sound) final none in
+        let bare = none_has_byte verification own 0 own.inputs psbt.inputs (as_many_inputs psbt sound) final none in
         ap (λ (ins : List TransactionInput). id_of (record own { inputs = ins }))
         (same_inputs own.inputs psbt.inputs (as_many_inputs psbt sound) (bare_inputs psbt sound) bare)
-        ∙ sym (ap (λ b. unwrap_or (id_by b (has_script_sig spends) own (known_inputs spends)) (id_of own)) (all_known own 0 own.inputs psbt.inputs final)
+        ∙ sym (ap (λ b. unwrap_or (id_by b (has_script_sig spends) own (known_inputs spends)) (id_of own)) (all_known verification own 0 own.inputs psbt.inputs final)
         ∙ ap (λ b. unwrap_or (id_by true b own (known_inputs spends)) (id_of own)) none)
 
 -- ---- before they are made final
@@ -148,13 +148,17 @@ sig_is_known : (nested : Bool) (redeem : Bytes) (r : Result Bytes State) (o : Op
     → is_some (script_sig_by (kind_with nested r) redeem) ≡ true
 sig_is_known nested redeem (Err s) o script e = absurd cc
 sig_is_known nested redeem (Ok program) o script e = elim (cases_Bool (is_script_hash program)) [
-  | inl is ↦ rw is (go nested)
-  | inr other ↦ absurd (not_found (Err state.OtherOutput) refl (rw other at e))
+  | inl is ↦ rw is (of_script nested)
+  | inr other ↦ elim (cases_Bool (is_key_hash program)) [ inl is ↦ rw (other, is) (of_key nested) | inr neither ↦ absurd (not_found (Err state.OtherOutput) refl (rw (other, neither) at e)) ]
 ]
   where
-    go : (b : Bool) → is_some (script_sig_by (if b then kind.P2shP2wsh else kind.P2wsh) redeem) ≡ true
-    go true = refl
-    go false = refl
+    of_script : (b : Bool) → is_some (script_sig_by (if b then kind.P2shP2wsh else kind.P2wsh) redeem) ≡ true
+    of_script true = refl
+    of_script false = refl
+
+    of_key : (b : Bool) → is_some (script_sig_by (if b then kind.P2shP2wpkh else kind.P2wpkh) redeem) ≡ true
+    of_key true = refl
+    of_key false = refl
 
     not_found : (r : Result Bytes State) → r ≡ Err state.OtherOutput → r ≡ Ok script → ⊥
     not_found r other found = cc (sym other ∙ found)
@@ -190,23 +194,24 @@ known_stays input given = elim (cases_Bool (is_ready (state_of input))) [
   | inr other ↦ ap (λ (fields : Map). known_script_sig (with_fields input.spend fields)) (leaves_others input other)
 ]
 
-all_alike : (transaction : Transaction) (number : ℕ) (ins : List TransactionInput) (maps : List Map) (inputs : List Input)
-    → map (λ (input : Input). input.spend) inputs ≡ spends_from transaction number ins maps → AllByRecursion IsGiven inputs
-    → AreAlike (spends_from transaction number ins (map written_map inputs)) (spends_from transaction number ins maps)
-all_alike transaction number [] maps inputs e given = record { inputs = refl; known = refl; some = refl }
-all_alike transaction number (i ∷ ins) [] [] e given = record { inputs = refl; known = refl; some = refl }
-all_alike transaction number (i ∷ ins) (fields ∷ maps) (input ∷ inputs) e given =
-    let own : Spend = record { transaction = transaction; number = number; input = i; fields = fields } in
-    let here : input.spend ≡ own = cc in
-    let rest : map (λ (input : Input). input.spend) inputs ≡ spends_from transaction (number + 1) ins maps = cc in
+all_alike : (counted verification : Verification) (transaction : Transaction) (number : ℕ) (ins : List TransactionInput) (maps : List Map) (inputs : List Input)
+    → map (λ (input : Input). input.spend) inputs ≡ spends_from counted transaction number ins maps → AllByRecursion IsGiven inputs
+    → AreAlike (spends_from verification transaction number ins (map written_map inputs)) (spends_from verification transaction number ins maps)
+all_alike counted verification transaction number [] maps inputs e given = record { inputs = refl; known = refl; some = refl }
+all_alike counted verification transaction number (i ∷ ins) [] [] e given = record { inputs = refl; known = refl; some = refl }
+all_alike counted verification transaction number (i ∷ ins) (fields ∷ maps) (input ∷ inputs) e given =
+    let counting : Spend = record { verification = counted; transaction = transaction; number = number; input = i; fields = fields } in
+    let own : Spend = record { verification = verification; transaction = transaction; number = number; input = i; fields = fields } in
+    let here : input.spend ≡ counting = cc in
+    let rest : map (λ (input : Input). input.spend) inputs ≡ spends_from counted transaction (number + 1) ins maps = cc in
     let same : known_script_sig (with_fields own (written_map input)) ≡ known_script_sig own =
     ap (λ spend. known_script_sig (with_fields spend (written_map input))) (sym here) ∙ known_stays input given.0 ∙ ap known_script_sig here in
-    alike_more (with_fields own (written_map input)) own (spends_from transaction (number + 1) ins (map written_map inputs)) (spends_from transaction (number + 1) ins maps)
-    refl same (all_alike transaction (number + 1) ins maps inputs rest given.1)
-all_alike transaction number ins maps inputs e given = absurd cc
+    alike_more (with_fields own (written_map input)) own (spends_from verification transaction (number + 1) ins (map written_map inputs)) (spends_from verification transaction (number + 1) ins maps)
+    refl same (all_alike counted verification transaction (number + 1) ins maps inputs rest given.1)
+all_alike counted verification transaction number ins maps inputs e given = absurd cc
 
 pub final_id_stays : EachIsSound → FinalIdStays
-final_id_stays law source psbt fits e inputs are =
-    let given = recursion_from_All IsGiven inputs (of_each law IsGiven (λ input g. g) source psbt fits e inputs are) in
-    id_alike psbt.transaction (spends_of (finalized psbt inputs)) (spends_of psbt)
-    (all_alike psbt.transaction 0 psbt.transaction.inputs psbt.inputs inputs are.spends given)
+final_id_stays law source psbt fits e counted inputs are verification =
+    let given = recursion_from_All IsGiven inputs (of_each law IsGiven (λ input g. g) source psbt fits e counted inputs are) in
+    id_alike psbt.transaction (spends_of verification (finalized psbt inputs)) (spends_of verification psbt)
+    (all_alike counted verification psbt.transaction 0 psbt.transaction.inputs psbt.inputs inputs are.spends given)

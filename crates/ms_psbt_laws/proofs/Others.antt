@@ -5,6 +5,7 @@ use Rattle.std.specs.Int.{w32, w64, to_le_bytes}
 use Rattle.def_hash.specs.Hash.{hash256}
 use Rattle.def_script.specs.Witness.{sized}
 use Rattle.def_machine.specs.Run.{run}
+use Rattle.def_curve.specs.declared.Judgement.{Judgement}
 use Rattle.def_curve.specs.Judgement.{judge}
 use Rattle.def_psbt.specs.Forms.{witness_of}
 use Rattle.hex.specs.Hex.{encode_lower}
@@ -25,14 +26,16 @@ use Rattle.def_psbt.specs.Map.{Pair, Map, Psbt, type_of, data_of}
 use Rattle.def_spend.specs.declared.Kind.{Kind}
 use Rattle.def_spend.specs.declared.State.{State}
 use Rattle.def_spend.specs.declared.State.TheVariants as state
+use Rattle.def_spend.specs.declared.Verification.{Verification}
+use Rattle.def_spend.specs.declared.Verification.TheVariants.{Verified, Unverified}
 use Rattle.def_spend.specs.Fields.{NON_WITNESS_UTXO, WITNESS_UTXO, PARTIAL_SIG, SIGHASH_TYPE, REDEEM_SCRIPT, WITNESS_SCRIPT, BIP32_DERIVATION, FINAL_SCRIPTSIG, FINAL_SCRIPTWITNESS, RIPEMD160, HASH256, has_type, is_between, field, is_signed, signatures_in, has_key, keys_in, is_preimage_pair, preimages_in, last_byte, asked, asked_type}
 use Rattle.def_spend.specs.Amount.{known_amount}
 use Rattle.def_spend.specs.Utxo.{Utxo, amount_of}
 use Rattle.def_spend.specs.Utxo as utxo
-use Rattle.def_spend.specs.HashTypes.{hash_type_of}
-use Rattle.def_spend.specs.SignatureHash.{signed_prevouts, signed_sequences, signed_outputs, signature_hash}
-use Rattle.def_spend.specs.Hashes.{script_or_none, script_in, spent_amount, hash_by}
-use Rattle.def_spend.specs.Input.{Spend, spends_from, locks_of, assets_of}
+use Rattle.def_spend.specs.SignatureHash.{signed_prevouts, signed_sequences, signed_outputs}
+use Rattle.def_spend.specs.Hashes.{hash_by}
+use Rattle.def_spend.specs.Input.{Spend, spends_from, locks_of}
+use Rattle.def_spend.specs.Good.{word_of, is_good, counted_by, counted_signatures, assets_of}
 use Rattle.def_spend.specs.Kinds.{spent_utxo, kind_of, script_sig_by}
 use Rattle.def_spend.specs.Reading.{Input, has_item, has_final, script_code, ReadsAs, HasReading}
 use Rattle.def_spend.specs.States.{MOST_HELD, is_sighash_wrong, are_too_many, choice_state, held_state, unless_unfit, tree_state, state_by, state_of, is_read, is_sane, is_final, is_ready, stack_of}
@@ -55,12 +58,12 @@ use Rattle.def_psbt_answer.specs.Words.{request_of}
 use Rattle.def_psbt_answer.specs.declared.words.Form.{Form}
 use Rattle.def_psbt_answer.specs.Lines.{psbt_line, final_id_line, output_lines, input_line, outpoint_line, amount_line, unchecked_line, signature_line, policy_line, sign_line, check_line, not_final_line}
 use Rattle.def_psbt_answer.specs.Fee.{fee_line}
-use Rattle.def_psbt_answer.specs.Report.{amount_in, plan_lines, last_lines, tree_lines, kind_lines, open_lines, input_report, inspect_report, hash_lines, input_hashes, hashes_report}
-use Rattle.def_psbt_answer.specs.Verified.{judgement_name, verdict_text, passed_line, passed_lines, verdict_lines, input_verdict, verify_report}
+use Rattle.def_psbt_answer.specs.Report.{word_by, told_word, amount_in, plan_lines, last_lines, tree_lines, kind_lines, signature_lines, open_lines, input_report, inspect_report, checked_line, hash_lines, input_hashes, hashes_report}
+use Rattle.def_psbt_answer.specs.Verified.{verdict_text, passed_lines, verdict_lines, input_verdict, verify_report}
 use Rattle.def_psbt_answer.specs.Reply.{reply, is_settled, settled_status, verify_status, form_of, first_open, extract_by, extract_reply, command_reply}
-use Rattle.def_psbt_answer.specs.Answer.{RepliesToPsbt, RepliesToSource, RepliesToWords}
+use Rattle.def_psbt_answer.specs.Answer.{verification_of, RepliesToPsbt, RepliesToSource, RepliesToWords}
 use Rattle.ms_spend_laws.specs.Planned.{with_map}
-use Rattle.ms_spend_laws.proofs.Reread.{SpendAlike, final_alike, utxo_alike, kind_alike, script_alike}
+use Rattle.ms_spend_laws.proofs.Reread.{SpendAlike, final_alike, utxo_alike, kind_alike, script_alike, hash_alike, word_alike}
 use Rattle.ms_psbt_laws.specs.Agreeing.{is_other, AreAgreeing, VersionsAgree}
 use Rattle.ms_psbt_laws.proofs.FinalIds.{AreAlike, alike_more, id_alike}
 
@@ -152,15 +155,11 @@ abbrev held_by : Tree → (type : ℕ) → Pairs → (many : Bool) → Assets �
 held_by tree type pairs many assets =
     if is_sighash_wrong type pairs then state.WrongSighash else if many then state.TooMany else choice_state (strict tree assets)
 
-abbrev open_by : State → Kind → Pairs → (lines : Bytes) → Bytes
-open_by s kind pairs lines = if is_final s then unchecked_line else kind_lines s kind ++ flat_map signature_line pairs ++ lines
-
-abbrev hash_with : Spend → (number : ℕ) → (script : Bytes) → (amount : ℕ) → Option Bytes
-hash_with spend number script amount =
-    option_map (λ type. signature_hash type spend.transaction spend.number spend.input script amount) (hash_type_of number)
+abbrev open_by : State → Kind → (signatures lines : Bytes) → Bytes
+open_by s kind signatures lines = if is_final s then unchecked_line else kind_lines s kind ++ signatures ++ lines
 
 abbrev checks : Spend → Pairs → Bytes
-checks spend pairs = flat_map (λ pair. check_line pair (hash_by (last_byte pair.1) spend)) pairs
+checks spend pairs = flat_map (checked_line spend) pairs
 
 module _ (input : Input) (later : Map) (same : filter is_other later ≡ filter is_other input.spend.fields) where
   abbrev own : Map
@@ -180,10 +179,29 @@ module _ (input : Input) (later : Map) (same : filter is_other later ≡ filter 
       subst (λ keys. ReadsAs keys (script_code new) input.tree) (sym (keys_same own later same))
       (subst (λ script. ReadsAs (keys_in own) script input.tree) (sym script_same) read)
 
+  amount_same : amount_in new ≡ amount_in input.spend
+  amount_same = ap amount_of (utxo_alike own later (spend_same own later same) input.spend.input.outpoint)
+
+  hash_same : (number : ℕ) → hash_by number new ≡ hash_by number input.spend
+  hash_same = hash_alike input.spend later (spend_same own later same)
+
+  word_same : (pair : Bytes × Bytes) → word_of new pair ≡ word_of input.spend pair
+  word_same = word_alike input.spend later (spend_same own later same)
+
+  good_same : (pairs : Pairs) → filter (λ pair. is_good (word_of new pair)) pairs ≡ filter (λ pair. is_good (word_of input.spend pair)) pairs
+  good_same pairs = λ i. filter (λ pair. is_good (word_same pair i)) pairs
+
+  counted_same : counted_signatures new ≡ counted_signatures input.spend
+  counted_same = go input.spend.verification
+    where
+      go : (v : Verification) → counted_by v new ≡ counted_by v input.spend
+      go Verified = ap (filter (λ pair. is_good (word_of new pair))) (signatures_same own later same) ∙ good_same (signatures_in own)
+      go Unverified = signatures_same own later same
+
   assets_same : assets_of new ≡ assets_of input.spend
   assets_same =
-      ap (λ (pairs : Pairs). record { locks = locks_of input.spend; pairs = pairs; preimages = preimages_in later }) (signatures_same own later same)
-      ∙ ap (λ (preimages : List Bytes). record { locks = locks_of input.spend; pairs = signatures_in own; preimages = preimages }) (preimages_same own later same)
+      ap (λ (pairs : Pairs). record { locks = locks_of input.spend; pairs = pairs; preimages = preimages_in later }) counted_same
+      ∙ ap (λ (preimages : List Bytes). record { locks = locks_of input.spend; pairs = counted_signatures input.spend; preimages = preimages }) (preimages_same own later same)
 
   held_same : (tree : Tree) → held_state tree new ≡ held_state tree input.spend
   held_same tree =
@@ -205,9 +223,6 @@ module _ (input : Input) (later : Map) (same : filter is_other later ≡ filter 
 
   -- ---- its lines
 
-  amount_same : amount_in new ≡ amount_in input.spend
-  amount_same = ap amount_of (utxo_alike own later (spend_same own later same) input.spend.input.outpoint)
-
   stack_same : stack_of (with_map input later) ≡ stack_of input
   stack_same = ap (λ (assets : Assets). unwrap_or (option_and_then (λ tree. strict tree assets) input.tree) []) assets_same
 
@@ -220,12 +235,24 @@ module _ (input : Input) (later : Map) (same : filter is_other later ≡ filter 
   tree_same s (Some tree) stack =
       ap (λ lines. (if is_read s then decode_report tree else []) ++ (if is_sane s then policy_line (printed_policy (policy_of tree)) else []) ++ lines) (last_same s tree stack)
 
+  by_word_same : (v : Verification) (pair : Bytes × Bytes) → word_by v new pair ≡ word_by v input.spend pair
+  by_word_same Verified pair = ap Some (word_same pair)
+  by_word_same Unverified pair = refl
+
+  told_same : (known : Bool) (pair : Bytes × Bytes) → told_word known new pair ≡ told_word known input.spend pair
+  told_same known pair = ap (λ (o : Option Judgement). if known then o else None) (by_word_same input.spend.verification pair)
+
+  signed_same : (s : State) → signature_lines s new ≡ signature_lines s input.spend
+  signed_same s =
+      ap (flat_map (λ pair. signature_line pair (told_word (is_sane s) new pair))) (signatures_same own later same)
+      ∙ (λ i. flat_map (λ pair. signature_line pair (told_same (is_sane s) pair i)) (signatures_in own))
+
   open_same : open_lines (with_map input later) ≡ open_lines input
   open_same =
-      ap (λ s. open_by s (kind_of new) (signatures_in later) (tree_lines s input.tree new (stack_of (with_map input later)))) state_same
-      ∙ ap (λ k. open_by (state_of input) k (signatures_in later) (tree_lines (state_of input) input.tree new (stack_of (with_map input later)))) kind_same
-      ∙ ap (λ (pairs : Pairs). open_by (state_of input) (kind_of input.spend) pairs (tree_lines (state_of input) input.tree new (stack_of (with_map input later)))) (signatures_same own later same)
-      ∙ ap (open_by (state_of input) (kind_of input.spend) (signatures_in own))
+      ap (λ s. open_by s (kind_of new) (signature_lines s new) (tree_lines s input.tree new (stack_of (with_map input later)))) state_same
+      ∙ ap (λ k. open_by (state_of input) k (signature_lines (state_of input) new) (tree_lines (state_of input) input.tree new (stack_of (with_map input later)))) kind_same
+      ∙ ap (λ lines. open_by (state_of input) (kind_of input.spend) lines (tree_lines (state_of input) input.tree new (stack_of (with_map input later)))) (signed_same (state_of input))
+      ∙ ap (open_by (state_of input) (kind_of input.spend) (signature_lines (state_of input) input.spend))
       (ap (tree_lines (state_of input) input.tree new) stack_same ∙ tree_same (state_of input) input.tree (stack_of input))
 
   pub report_same : input_report (with_map input later) ≡ input_report input
@@ -234,16 +261,8 @@ module _ (input : Input) (later : Map) (same : filter is_other later ≡ filter 
       ∙ ap (λ amount. input_line input.spend.number (state_of input) ++ outpoint_line input.spend.input ++ amount_line amount ++ open_lines (with_map input later)) amount_same
       ∙ ap (λ lines. input_line input.spend.number (state_of input) ++ outpoint_line input.spend.input ++ amount_line (amount_in input.spend) ++ lines) open_same
 
-  hash_same : (number : ℕ) → hash_by number new ≡ hash_by number input.spend
-  hash_same number =
-      ap (λ r. hash_with input.spend number (script_or_none r) (spent_amount new)) script_same
-      ∙ ap (λ amount. hash_with input.spend number (script_in input.spend) (known_amount amount)) amount_same
-
   check_same : (pairs : Pairs) → checks new pairs ≡ checks input.spend pairs
-  check_same [] = refl
-  check_same (pair ∷ pairs) =
-      ap (λ (o : Option Bytes). check_line pair o ++ checks new pairs) (hash_same (last_byte pair.1))
-      ∙ ap (λ lines. check_line pair (hash_by (last_byte pair.1) input.spend) ++ lines) (check_same pairs)
+  check_same pairs = λ i. flat_map (λ pair. check_line pair (hash_same (last_byte pair.1) i) (by_word_same input.spend.verification pair i)) pairs
 
   lines_same : hash_lines new ≡ hash_lines input.spend
   lines_same =
@@ -310,14 +329,7 @@ module _ (input : Input) (later : Map) (same : filter is_other later ≡ filter 
   passed_same : (verdict : Verdict) → passed_lines new verdict ≡ passed_lines input.spend verdict
   passed_same (not_final s) = refl
   passed_same (flawed flaw) = refl
-  passed_same (valid script checks) = each checks
-    where
-      each : (pairs : Pairs) → flat_map (passed_line new script) pairs ≡ flat_map (passed_line input.spend script) pairs
-      each [] = refl
-      each (pair ∷ pairs) =
-          ap (λ word. line (codes "signature " ++ encode_lower pair.0 ++ codes " " ++ decimal (last_byte pair.1) ++ codes " " ++ judgement_name word)
-          ++ flat_map (passed_line new script) pairs) (judged_same script pair.0 pair.1)
-          ∙ ap (λ lines. passed_line input.spend script pair ++ lines) (each pairs)
+  passed_same (valid script checks) = λ i. flat_map (λ pair. signature_line pair (Some (judged_same script pair.0 pair.1 i))) checks
 
   pub verify_same : input_verdict (with_map input later) ≡ input_verdict input
   verify_same =
@@ -397,32 +409,32 @@ with_maps [] maps = []
 with_maps (input ∷ inputs) [] = []
 with_maps (input ∷ inputs) (fields ∷ maps) = with_map input fields ∷ with_maps inputs maps
 
-record Turned (transaction : Transaction) (number : ℕ) (ins : List TransactionInput) (inputs : List Input) (maps : List Map) : Type 0 where
+record Turned (verification : Verification) (transaction : Transaction) (number : ℕ) (ins : List TransactionInput) (inputs : List Input) (maps : List Map) : Type 0 where
   pub turned : AreTurned inputs (with_maps inputs maps)
-  pub spends : map (λ (input : Input). input.spend) (with_maps inputs maps) ≡ spends_from transaction number ins maps
+  pub spends : map (λ (input : Input). input.spend) (with_maps inputs maps) ≡ spends_from verification transaction number ins maps
   pub read : AllByRecursion HasReading (with_maps inputs maps)
 
-are_turned : (transaction : Transaction) (number : ℕ) (ins : List TransactionInput) (fields maps : List Map) (inputs : List Input)
-    → map (filter is_other) fields ≡ map (filter is_other) maps → map (λ (input : Input). input.spend) inputs ≡ spends_from transaction number ins fields
-    → AllByRecursion HasReading inputs → Turned transaction number ins inputs maps
-are_turned transaction number [] fields maps [] same spends read = record { turned = tt; spends = refl; read = tt }
-are_turned transaction number [] fields maps (input ∷ inputs) same spends read = absurd cc
-are_turned transaction number (i ∷ ins) [] [] [] same spends read = record { turned = tt; spends = refl; read = tt }
-are_turned transaction number (i ∷ ins) [] [] (input ∷ inputs) same spends read = absurd cc
-are_turned transaction number (i ∷ ins) [] (m ∷ maps) inputs same spends read = absurd cc
-are_turned transaction number (i ∷ ins) (f ∷ fields) [] inputs same spends read = absurd cc
-are_turned transaction number (i ∷ ins) (f ∷ fields) (m ∷ maps) [] same spends read = absurd cc
-are_turned transaction number (i ∷ ins) (f ∷ fields) (m ∷ maps) (input ∷ inputs) same spends read =
-    let own : input.spend ≡ record { transaction = transaction; number = number; input = i; fields = f } = cc in
-    let others : map (λ (input : Input). input.spend) inputs ≡ spends_from transaction (number + 1) ins fields = cc in
+are_turned : (verification : Verification) (transaction : Transaction) (number : ℕ) (ins : List TransactionInput) (fields maps : List Map) (inputs : List Input)
+    → map (filter is_other) fields ≡ map (filter is_other) maps → map (λ (input : Input). input.spend) inputs ≡ spends_from verification transaction number ins fields
+    → AllByRecursion HasReading inputs → Turned verification transaction number ins inputs maps
+are_turned verification transaction number [] fields maps [] same spends read = record { turned = tt; spends = refl; read = tt }
+are_turned verification transaction number [] fields maps (input ∷ inputs) same spends read = absurd cc
+are_turned verification transaction number (i ∷ ins) [] [] [] same spends read = record { turned = tt; spends = refl; read = tt }
+are_turned verification transaction number (i ∷ ins) [] [] (input ∷ inputs) same spends read = absurd cc
+are_turned verification transaction number (i ∷ ins) [] (m ∷ maps) inputs same spends read = absurd cc
+are_turned verification transaction number (i ∷ ins) (f ∷ fields) [] inputs same spends read = absurd cc
+are_turned verification transaction number (i ∷ ins) (f ∷ fields) (m ∷ maps) [] same spends read = absurd cc
+are_turned verification transaction number (i ∷ ins) (f ∷ fields) (m ∷ maps) (input ∷ inputs) same spends read =
+    let own : input.spend ≡ record { verification = verification; transaction = transaction; number = number; input = i; fields = f } = cc in
+    let others : map (λ (input : Input). input.spend) inputs ≡ spends_from verification transaction (number + 1) ins fields = cc in
     let kept : filter is_other f ≡ filter is_other m = cc in
     let kept_others : map (filter is_other) fields ≡ map (filter is_other) maps = cc in
-    let rest = are_turned transaction (number + 1) ins fields maps inputs kept_others others read.1 in
+    let rest = are_turned verification transaction (number + 1) ins fields maps inputs kept_others others read.1 in
     let mine : filter is_other m ≡ filter is_other input.spend.fields = sym kept ∙ ap (λ (spend : Spend). filter is_other spend.fields) (sym own) in
     record {
       turned = (refl, mine, rest.turned);
       spends = ap (λ (spend : Spend). record spend { fields = m } ∷ map (λ (input : Input). input.spend) (with_maps inputs maps)) own
-          ∙ ap (λ (spends : List Spend). record { transaction = transaction; number = number; input = i; fields = m } ∷ spends) rest.spends;
+          ∙ ap (λ (spends : List Spend). record { verification = verification; transaction = transaction; number = number; input = i; fields = m } ∷ spends) rest.spends;
       read = (reading_same input m mine read.0, rest.read);
     }
 
@@ -545,15 +557,15 @@ verify_stays : (inputs others : List Input) → AreTurned inputs others → veri
 unfolding verify_report
 verify_stays inputs others turned = lines_stay input_verdict verify_same inputs others turned
 
-command_stays : (it : Command) → (it ≡ command.Finalize → ⊥) → (form other : Form) (psbt later : Psbt) → AreAgreeing psbt later
+command_stays : (it : Command) → ((verification : Verification) → it ≡ command.Finalize verification → ⊥) → (form other : Form) (psbt later : Psbt) → AreAgreeing psbt later
     → (inputs others : List Input) → AreTurned inputs others → command_reply it other later others ≡ command_reply it form psbt inputs
-command_stays command.Finalize not form other psbt later agree inputs others turned = absurd (not refl)
-command_stays command.Inspect not form other psbt later agree inputs others turned =
+command_stays (command.Finalize verification) not form other psbt later agree inputs others turned = absurd (not verification refl)
+command_stays (command.Inspect verification) not form other psbt later agree inputs others turned =
     ap (λ (b : Bool). reply (if b then status.Done else status.Open) (inspect_report later.transaction others)) (status_stays inputs others turned)
     ∙ ap (λ (t : Transaction). reply (settled_status inputs) (inspect_report t others)) (sym agree.transaction)
     ∙ ap (reply (settled_status inputs)) (inspect_stays psbt.transaction inputs others turned)
 command_stays command.Extract not form other psbt later agree inputs others turned = extract_stays psbt later agree inputs others turned
-command_stays command.Hashes not form other psbt later agree inputs others turned = ap (reply status.Done) (hashes_stay inputs others turned)
+command_stays (command.Hashes verification) not form other psbt later agree inputs others turned = ap (reply status.Done) (hashes_stay inputs others turned)
 command_stays command.Verify not form other psbt later agree inputs others turned =
     ap (λ (b : Bool). reply (if b then status.Done else status.Open) (verify_report others)) (valid_stays inputs others turned)
     ∙ ap (reply (verify_status inputs)) (verify_stays inputs others turned)
@@ -561,22 +573,22 @@ command_stays command.Verify not form other psbt later agree inputs others turne
 pub versions_agree : VersionsAgree
 versions_agree words source other psbt later status report read again agree not alone answer = record { replies = by_words (request_of words) not alone answer.replies }
   where
-    by_psbt : (it : Command) → (it ≡ command.Finalize → ⊥) → RepliesToPsbt it (form_of source) psbt (reply status report)
+    by_psbt : (it : Command) → ((verification : Verification) → it ≡ command.Finalize verification → ⊥) → RepliesToPsbt it (form_of source) psbt (reply status report)
         → RepliesToPsbt it (form_of other) later (reply status report)
     by_psbt it not replies =
         let inputs = replies.0 in
         let are = replies.1 in
-        let t = are_turned psbt.transaction 0 psbt.transaction.inputs psbt.inputs later.inputs inputs agree.others are.spends (recursion_from_All HasReading inputs are.read) in
-        let spends = t.spends ∙ ap (λ (t : Transaction). spends_from t 0 t.inputs later.inputs) agree.transaction in (
+        let t = are_turned (verification_of it) psbt.transaction 0 psbt.transaction.inputs psbt.inputs later.inputs inputs agree.others are.spends (recursion_from_All HasReading inputs are.read) in
+        let spends = t.spends ∙ ap (λ (t : Transaction). spends_from (verification_of it) t 0 t.inputs later.inputs) agree.transaction in (
           with_maps inputs later.inputs,
           record { spends = spends; read = All-from_recursion HasReading (with_maps inputs later.inputs) t.read },
           replies.2 ∙ sym (command_stays it not (form_of source) (form_of other) psbt later agree inputs (with_maps inputs later.inputs) t.turned),
         )
 
-    by_words : (o : Option Request) → (o ≡ Some (request.One command.Finalize) → ⊥) → (o ≡ Some request.Combine → ⊥) → RepliesToWords o source (reply status report)
-        → RepliesToWords o other (reply status report)
+    by_words : (o : Option Request) → ((verification : Verification) → o ≡ Some (request.One (command.Finalize verification)) → ⊥)
+        → (o ≡ Some request.Combine → ⊥) → RepliesToWords o source (reply status report) → RepliesToWords o other (reply status report)
     by_words None not alone replies = replies
     by_words (Some request.Combine) not alone replies = absurd (alone refl)
     by_words (Some (request.One it)) not alone replies =
         subst (λ result. RepliesToSource it (form_of other) result (reply status report)) (sym again)
-        (by_psbt it (λ e. not (ap (λ c. Some (request.One c)) e)) (subst (λ result. RepliesToSource it (form_of source) result (reply status report)) read replies))
+        (by_psbt it (λ verification e. not verification (ap (λ c. Some (request.One c)) e)) (subst (λ result. RepliesToSource it (form_of source) result (reply status report)) read replies))

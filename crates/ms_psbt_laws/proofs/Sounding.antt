@@ -1,20 +1,23 @@
 -- What is written is sound: the kept pairs of each Ready input with its final witness, and the maps of others.
-use Rattle.std.proofs.Common.{◌≡◌, ℕ, zero, suc, ◌+◌, ◌*◌, ◌^◌, ◌<◌, ◌≤◌, nat_lt, Bool, true, false, not, cond, List, [], ◌∷◌, ◌++◌, length, map, filter, inl, inr, All, Some, None, is_some, refl, sym, ap, subst, ◌∙◌, if◌then◌else◌, arith}
+use Rattle.std.proofs.Common.{◌≡◌, ℕ, zero, suc, ◌+◌, ◌*◌, ◌^◌, ◌<◌, ◌≤◌, ◌==◌, nat_lt, Bool, true, false, not, cond, List, [], ◌∷◌, ◌++◌, length, map, filter, inl, inr, All, Some, None, is_some, refl, sym, ap, subst, ◌∙◌, if◌then◌else◌, arith}
 use Rattle.std.specs.List.{flat_map, AllByRecursion}
 use Rattle.std.specs.Int.{w16, w32, w64, to_le_bytes, byte_at, bytes_low_first}
 use Rattle.std.specs.Str.{bytes_eq}
-use Rattle.std.proofs.lemmas.Bool.{false≢true, ltb-true, cases_Bool, or_parts, or_from, false_from_ne_true}
+use Rattle.std.proofs.lemmas.Bool.{false≢true, eqb-true, and_parts, ltb-true, cases_Bool, or_parts, or_from, false_from_ne_true}
 use Rattle.std.proofs.lemmas.List.{append-nil, length-append}
 use Rattle.std.proofs.lemmas.List.Concat.{flat_map-cons}
-use Rattle.std.proofs.lemmas.List.Elements.{All-nil, All-cons, All-append, All-filter, recursion_from_All}
+use Rattle.std.proofs.lemmas.List.Elements.{All-nil, All-cons, All-append, All-contains, All-filter, recursion_from_All}
 use Rattle.std.proofs.lemmas.Slice.Eq.{bytes_eq-Decides}
 use Rattle.def_hash.specs.declared.HashKind.TheVariants as kind
-use Rattle.def_hash.specs.Hash.{sha256}
-use Rattle.def_hash.proofs.Lengths.{digest_has_its_length, sha256-IsBytes}
+use Rattle.def_hash.specs.Hash.{sha256, hash160}
+use Rattle.def_hash.proofs.Lengths.{digest_has_its_length, digest_has_bytes, sha256-IsBytes}
 use Rattle.def_script.specs.Bytes.{Bytes, IsBytes}
 use Rattle.def_script.specs.Sizes.{size_bytes, read_size}
 use Rattle.def_script.specs.Witness.{sized, items_text, witness_text}
 use Rattle.def_machine.specs.Program.{program_of}
+use Rattle.def_tree.specs.Tree.{Key, Tree}
+use Rattle.def_tree.specs.Range.{IsKey}
+use Rattle.def_assets.specs.Assets.{IsSignature}
 use Rattle.def_emit.specs.Emit.{script_of}
 use Rattle.def_satisfaction.proofs.OfBytes.{sat_is_of_bytes}
 use Rattle.ms_witness.specs.Reading.{MOST_WITNESS, FitsWitness}
@@ -24,10 +27,9 @@ use Rattle.def_psbt.specs.Part.{Part, first_string, first_list, whole}
 use Rattle.def_psbt.specs.Forms as forms
 use Rattle.def_psbt.specs.Listed.{Form, stands, shape_fault, pair_fault, input_form}
 use Rattle.def_psbt.specs.Laws.{IsSoundPair, IsSoundMap}
-use Rattle.def_spend.specs.declared.State.{State}
 use Rattle.def_spend.specs.declared.State.TheVariants as state
 use Rattle.def_spend.specs.Fields.{WITNESS_SCRIPT, FINAL_SCRIPTSIG, FINAL_SCRIPTWITNESS, has_type, field}
-use Rattle.def_spend.specs.Input.{assets_of}
+use Rattle.def_spend.specs.Good.{counted_signatures, assets_of}
 use Rattle.def_spend.specs.Kinds.{pushed, IsGuardedBy}
 use Rattle.def_spend.specs.Reading.{Input}
 use Rattle.def_spend.specs.States.{state_of, is_ready, stack_of}
@@ -38,8 +40,10 @@ use Rattle.ms_given_laws.proofs.Later.{IsPairOfBytes}
 use Rattle.ms_given_laws.proofs.Parts.{some_is}
 use Rattle.ms_given_laws.proofs.Held.{fault_none}
 use Rattle.ms_given_laws.proofs.Joined.{sound_joins}
+use Rattle.ms_spend_laws.specs.KeyHash.{key_program}
+use Rattle.ms_spend_laws.specs.Ready.{IsScriptWitness, IsKeyWitness}
 use Rattle.ms_spend_laws.proofs.Inputs.{IsGiven, held, of_each}
-use Rattle.ms_spend_laws.proofs.States.{opens, ready_some, stack_is, writes}
+use Rattle.ms_spend_laws.proofs.States.{opens, ready_is, ready_some, stack_is, writes}
 use Rattle.ms_spend_laws.proofs.Chosen.{IsChosen, canonical, fits_witness, witness_is}
 use Rattle.ms_given_laws.proofs.PartsBack.{AreItems, witness_back}
 
@@ -236,16 +240,29 @@ witness_fits : (items : List Bytes) → AllByRecursion IsBytes items → IsBytes
 witness_fits items h =
     bytes.both (size_bytes (length items)) (flat_map sized items) (size_fits (length items)) (bytes.joined sized items (each_sized items h))
 
--- the scriptSig of a program
-pushed_fits : (script : Bytes) → (length (pushed (program_of script)) < 2 ^ 64) × IsBytes (pushed (program_of script))
-pushed_fits script =
-    let long : length (sha256 script) ≡ 32 = digest_has_its_length kind.Sha256 script in
-    let program = bytes.more 0x00 (0x20 ∷ sha256 script) (omega arith) (bytes.more 0x20 (sha256 script) (omega arith) (sha256-IsBytes script)) in
-    (omega (arith, long), bytes.more (length (program_of script)) (program_of script) (omega (arith, long)) program)
+-- a string that can be spelled, and consists of bytes
+abbrev Fits : Bytes → Type 0
+Fits string = (length string < 2 ^ 64) × IsBytes string
 
-guarded_fits : (script output script_sig : Bytes) → IsGuardedBy (program_of script) output script_sig → (length script_sig < 2 ^ 64) × IsBytes script_sig
-guarded_fits script output script_sig (inl h) = subst (λ (sig : Bytes). (length sig < 2 ^ 64) × IsBytes sig) (sym h.1) (omega arith, bytes.none)
-guarded_fits script output script_sig (inr h) = subst (λ (sig : Bytes). (length sig < 2 ^ 64) × IsBytes sig) (sym h.1) (pushed_fits script)
+-- the scriptSig of a program
+program_fits : (program : Bytes) → length program < 76 → IsBytes program → Fits (pushed program)
+program_fits program short fits = (omega (arith, short), bytes.more (length program) program (omega (arith, short)) fits)
+
+script_hash_fits : (script : Bytes) → Fits (pushed (program_of script))
+script_hash_fits script =
+    let long : length (sha256 script) ≡ 32 = digest_has_its_length kind.Sha256 script in
+    program_fits (program_of script) (omega (arith, long))
+    (bytes.more 0x00 (0x20 ∷ sha256 script) (omega arith) (bytes.more 0x20 (sha256 script) (omega arith) (sha256-IsBytes script)))
+
+key_hash_fits : (key : Key) → Fits (pushed (key_program key))
+key_hash_fits key =
+    let long : length (hash160 key) ≡ 20 = digest_has_its_length kind.Hash160 key in
+    program_fits (key_program key) (omega (arith, long))
+    (bytes.more 0x00 (0x14 ∷ hash160 key) (omega arith) (bytes.more 0x14 (hash160 key) (omega arith) (digest_has_bytes kind.Hash160 key)))
+
+guarded_fits : (program output script_sig : Bytes) → Fits (pushed program) → IsGuardedBy program output script_sig → Fits script_sig
+guarded_fits program output script_sig fits (inl h) = subst Fits (sym h.1) (omega arith, bytes.none)
+guarded_fits program output script_sig fits (inr h) = subst Fits (sym h.1) fits
 
 witness_fit : (witness : Bytes) → IsBytes witness → All IsPairOfBytes (witness_pair witness ∷ [])
 witness_fit witness fits =
@@ -265,18 +282,15 @@ pub record IsGoodMap (fields written : Map) : Type 0 where
   pub sound : (version : PsbtVersion) → IsSoundMap (input_form version) [] fields → IsSoundMap (input_form version) [] written
   pub fits : IsMapOfBytes written
 
-pub ready_is : (s : State) → is_ready s ≡ true → s ≡ state.Ready
-ready_is state.Ready e = refl
-ready_is s e = absurd cc
-
--- the final fields of a Ready input
+-- the final fields of a Ready input: the last item of the witness, and those before it
 pub record IsFinalWitness (input : Input) : Type 0 where
-  pub script : Bytes
-  pub is : witness_of input ≡ witness_text (stack_of input) script
-  pub fits : FitsWitness (stack_of input) script
-  pub stack_bytes : All IsBytes (stack_of input)
-  pub script_bytes : IsBytes script
-  pub script_sig_fits : (length (script_sig_of input.spend) < 2 ^ 64) × IsBytes (script_sig_of input.spend)
+  pub stack : List Bytes
+  pub last : Bytes
+  pub is : witness_of input ≡ witness_text stack last
+  pub fits : FitsWitness stack last
+  pub stack_bytes : All IsBytes stack
+  pub last_bytes : IsBytes last
+  pub script_sig_fits : Fits (script_sig_of input.spend)
 
 -- the value of a field is that of a pair of its type, of which holds what holds of all
 pub field_pair : (P : Pair → Type 0) (type : ℕ) (fields : Map) (value : Bytes) → AllByRecursion P fields → field type fields ≡ Some value
@@ -287,34 +301,60 @@ field_pair P type (pair ∷ fields) value all e = elim (cases_Bool (has_type typ
   | inr other ↦ field_pair P type fields value all.1 (rw other at e)
 ]
 
+-- of P2WSH the last one is the script
+script_final : (input : Input) (tree : Tree) (script : Bytes) → IsChosen input tree script → IsScriptWitness input tree → IsFinalWitness input
+script_final input tree script c w =
+    let found = field_pair IsPairOfBytes WITNESS_SCRIPT input.spend.fields (script_of tree)
+    (recursion_from_All IsPairOfBytes input.spend.fields c.given.place.fits) w.script in
+    record {
+      stack = stack_of input;
+      last = script_of tree;
+      is = w.witness;
+      fits = fits_witness input tree script c;
+      stack_bytes = sat_is_of_bytes tree (assets_of input.spend) (stack_of input) (writes input tree script c.tried) (held input c.given) (canonical input tree script c);
+      last_bytes = subst IsBytes found.3 found.1.1;
+      script_sig_fits = guarded_fits (program_of (script_of tree)) w.output.script (script_sig_of input.spend) (script_hash_fits (script_of tree)) w.guarded;
+    }
+
+-- of P2WPKH the key
+key_final : (input : Input) (tree : Tree) → IsGiven input → IsKeyWitness input tree → IsFinalWitness input
+key_final input tree given w =
+    let are = held input given in
+    let key : IsKey w.key = All-contains (λ pair. IsKey pair.0) (counted_signatures input.spend) (w.key, w.sig) are.keys w.counts in
+    let sig : IsSignature w.sig = All-contains (λ pair. IsSignature pair.1) (counted_signatures input.spend) (w.key, w.sig) are.signatures w.counts in
+    let long : length w.key ≡ 33 = eqb-true (length w.key) 33 (and_parts (length w.key == 33) _ key.form).0 in
+    record {
+      stack = w.sig ∷ [];
+      last = w.key;
+      is = w.witness;
+      fits = record {
+        few = omega arith;
+        items = All-cons (λ item. length item ≤ MOST_WITNESS) w.sig [] (omega (arith, sig.few)) (All-nil (λ item. length item ≤ MOST_WITNESS));
+        last = omega (arith, long);
+      };
+      stack_bytes = All-cons IsBytes w.sig [] sig.bytes (All-nil IsBytes);
+      last_bytes = key.bytes;
+      script_sig_fits = guarded_fits (key_program w.key) w.output.script (script_sig_of input.spend) (key_hash_fits w.key) w.guarded;
+    }
+
 pub final_witness : (input : Input) → IsGiven input → is_ready (state_of input) ≡ true → IsFinalWitness input
 final_witness input given ready =
     let o = opens input state.Ready given.read tt (ready_is (state_of input) ready) in
     let some = ready_some _ o.chosen in
     let stack = stack_is input o.tree o.script some.0 o.tried some.1 in
     let c : IsChosen input o.tree o.script = record { given = given; tried = o.tried; chosen = some.1 ∙ ap Some (sym stack) } in
-    let w = witness_is input o.tree o.script o.tried in
-    let found = field_pair IsPairOfBytes WITNESS_SCRIPT input.spend.fields (script_of o.tree)
-    (recursion_from_All IsPairOfBytes input.spend.fields given.place.fits) w.script in
-    record {
-      script = script_of o.tree;
-      is = w.witness;
-      fits = fits_witness input o.tree o.script c;
-      stack_bytes = sat_is_of_bytes o.tree (assets_of input.spend) (stack_of input) (writes input o.tree o.script o.tried) (held input given) (canonical input o.tree o.script c);
-      script_bytes = subst IsBytes found.3 found.1.1;
-      script_sig_fits = guarded_fits (script_of o.tree) w.output.script (script_sig_of input.spend) w.guarded;
-    }
+    elim (witness_is input o.tree o.script c) [ inl w ↦ script_final input o.tree o.script c w | inr w ↦ key_final input o.tree given w ]
 
 final_good : (input : Input) → IsGiven input → IsFinalWitness input → IsGoodMap input.spend.fields (final_map input.spend.fields (script_sig_of input.spend) (witness_of input))
 final_good input given w =
     let place = given.place in
-    let items = All-append IsBytes (stack_of input) (w.script ∷ []) w.stack_bytes (All-cons IsBytes w.script [] w.script_bytes (All-nil IsBytes)) in
-    let text = witness_fits (all_items (stack_of input) w.script) (recursion_from_All IsBytes (all_items (stack_of input) w.script) items) in
+    let items = All-append IsBytes w.stack (w.last ∷ []) w.stack_bytes (All-cons IsBytes w.last [] w.last_bytes (All-nil IsBytes)) in
+    let text = witness_fits (all_items w.stack w.last) (recursion_from_All IsBytes (all_items w.stack w.last) items) in
     subst (λ (witness : Bytes). IsGoodMap input.spend.fields (final_map input.spend.fields (script_sig_of input.spend) witness)) (sym w.is) (record {
-      sound = λ version sound. final_sound version input.spend.fields (stack_of input) w.script (script_sig_of input.spend) sound w.fits w.script_sig_fits.0;
-      fits = All-append IsPairOfBytes (filter is_kept input.spend.fields) (final_pairs (script_sig_of input.spend) (witness_text (stack_of input) w.script))
+      sound = λ version sound. final_sound version input.spend.fields w.stack w.last (script_sig_of input.spend) sound w.fits w.script_sig_fits.0;
+      fits = All-append IsPairOfBytes (filter is_kept input.spend.fields) (final_pairs (script_sig_of input.spend) (witness_text w.stack w.last))
           (All-filter is_kept IsPairOfBytes input.spend.fields place.fits)
-          (pairs_fit (script_sig_of input.spend) (witness_text (stack_of input) w.script) w.script_sig_fits.1 text);
+          (pairs_fit (script_sig_of input.spend) (witness_text w.stack w.last) w.script_sig_fits.1 text);
     })
 
 pub good_map : (input : Input) → IsGiven input → IsGoodMap input.spend.fields (written_map input)

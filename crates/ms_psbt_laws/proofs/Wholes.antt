@@ -13,6 +13,7 @@ use Rattle.def_psbt.specs.Reading.{input_rules}
 use Rattle.def_psbt.proofs.Counting.{as_many_inputs}
 use Rattle.def_psbt.specs.Source.{psbt_of}
 use Rattle.def_psbt.specs.Laws.{IsWholeMap, IsSound, WrittenIsReadBack}
+use Rattle.def_spend.specs.declared.Verification.{Verification}
 use Rattle.def_spend.specs.Input.{Spend, spends_from, spends_of}
 use Rattle.def_spend.specs.Reading.{Input, AreInputs}
 use Rattle.def_spend.specs.Finalized.{written_map, finalized}
@@ -25,36 +26,37 @@ use Rattle.ms_psbt_laws.proofs.Sounding.{sized_fits, IsGoodMap, good_maps}
 
 -- ---- as many inputs as maps
 
-spends_length : (transaction : Transaction) (number : ℕ) (ins : List TransactionInput) (maps : List Map) → length maps ≡ length ins → length (spends_from transaction number ins maps) ≡ length ins
-spends_length transaction number [] maps e = refl
-spends_length transaction number (i ∷ ins) [] e = absurd (omega (arith, e))
-spends_length transaction number (i ∷ ins) (m ∷ maps) e =
-    let rest = spends_length transaction (number + 1) ins maps (omega (arith, e)) in
+spends_length : (verification : Verification) (transaction : Transaction) (number : ℕ) (ins : List TransactionInput) (maps : List Map) → length maps ≡ length ins
+    → length (spends_from verification transaction number ins maps) ≡ length ins
+spends_length verification transaction number [] maps e = refl
+spends_length verification transaction number (i ∷ ins) [] e = absurd (omega (arith, e))
+spends_length verification transaction number (i ∷ ins) (m ∷ maps) e =
+    let rest = spends_length verification transaction (number + 1) ins maps (omega (arith, e)) in
     omega (arith, rest)
 
-inputs_length : (psbt : Psbt) (inputs : List Input) → IsSound psbt → AreInputs psbt inputs → length inputs ≡ length psbt.transaction.inputs
-inputs_length psbt inputs sound are =
-    let spends : length (map (λ (input : Input). input.spend) inputs) ≡ length (spends_of psbt) = ap length are.spends in
+inputs_length : (verification : Verification) (psbt : Psbt) (inputs : List Input) → IsSound psbt → AreInputs verification psbt inputs → length inputs ≡ length psbt.transaction.inputs
+inputs_length verification psbt inputs sound are =
+    let spends : length (map (λ (input : Input). input.spend) inputs) ≡ length (spends_of verification psbt) = ap length are.spends in
     let same = length-map {B = Spend} inputs (λ (input : Input). input.spend) in
-    let all = spends_length psbt.transaction 0 psbt.transaction.inputs psbt.inputs (as_many_inputs psbt sound) in
+    let all = spends_length verification psbt.transaction 0 psbt.transaction.inputs psbt.inputs (as_many_inputs psbt sound) in
     omega (arith, spends, same, all)
 
 -- the maps of the inputs are those of the PSBT
-spends_fields : (transaction : Transaction) (number : ℕ) (ins : List TransactionInput) (maps : List Map) → length maps ≡ length ins
-    → map (λ (spend : Spend). spend.fields) (spends_from transaction number ins maps) ≡ maps
-spends_fields transaction number [] [] e = refl
-spends_fields transaction number [] (m ∷ maps) e = absurd (omega (arith, e))
-spends_fields transaction number (i ∷ ins) [] e = absurd (omega (arith, e))
-spends_fields transaction number (i ∷ ins) (m ∷ maps) e = ap (λ (rest : List Map). m ∷ rest) (spends_fields transaction (number + 1) ins maps (omega (arith, e)))
+spends_fields : (verification : Verification) (transaction : Transaction) (number : ℕ) (ins : List TransactionInput) (maps : List Map) → length maps ≡ length ins
+    → map (λ (spend : Spend). spend.fields) (spends_from verification transaction number ins maps) ≡ maps
+spends_fields verification transaction number [] [] e = refl
+spends_fields verification transaction number [] (m ∷ maps) e = absurd (omega (arith, e))
+spends_fields verification transaction number (i ∷ ins) [] e = absurd (omega (arith, e))
+spends_fields verification transaction number (i ∷ ins) (m ∷ maps) e = ap (λ (rest : List Map). m ∷ rest) (spends_fields verification transaction (number + 1) ins maps (omega (arith, e)))
 
 fields_twice : (inputs : List Input) → map (λ (spend : Spend). spend.fields) (map (λ (input : Input). input.spend) inputs) ≡ map (λ (input : Input). input.spend.fields) inputs
 fields_twice [] = refl
 fields_twice (input ∷ inputs) = ap (λ (rest : List Map). input.spend.fields ∷ rest) (fields_twice inputs)
 
-fields_are : (psbt : Psbt) (inputs : List Input) → IsSound psbt → AreInputs psbt inputs → map (λ (input : Input). input.spend.fields) inputs ≡ psbt.inputs
-fields_are psbt inputs sound are =
+fields_are : (verification : Verification) (psbt : Psbt) (inputs : List Input) → IsSound psbt → AreInputs verification psbt inputs → map (λ (input : Input). input.spend.fields) inputs ≡ psbt.inputs
+fields_are verification psbt inputs sound are =
     sym (fields_twice inputs) ∙ ap (map (λ (spend : Spend). spend.fields)) are.spends
-    ∙ spends_fields psbt.transaction 0 psbt.transaction.inputs psbt.inputs (as_many_inputs psbt sound)
+    ∙ spends_fields verification psbt.transaction 0 psbt.transaction.inputs psbt.inputs (as_many_inputs psbt sound)
 
 -- each map is whole as it was
 each_whole : (version : PsbtVersion) (inputs : List Input) → AllByRecursion (IsWholeMap (input_rules version)) (map (λ (input : Input). input.spend.fields) inputs)
@@ -70,17 +72,18 @@ each_whole version (input ∷ inputs) whole good = (
 
 -- ---- what is written
 
-pub whole_again : EachIsSound → (source : Bytes) (psbt : Psbt) → IsBytes source → psbt_of source ≡ Ok psbt → (inputs : List Input) → AreInputs psbt inputs → IsWhole (finalized psbt inputs)
-whole_again law source psbt fits e inputs are =
+pub whole_again : EachIsSound → (source : Bytes) (psbt : Psbt) → IsBytes source → psbt_of source ≡ Ok psbt → (verification : Verification) (inputs : List Input)
+    → AreInputs verification psbt inputs → IsWhole (finalized psbt inputs)
+whole_again law source psbt fits e verification inputs are =
     let whole = law source psbt fits e in
-    let good = good_maps law source psbt fits e inputs are in
+    let good = good_maps law source psbt fits e verification inputs are in
     let sound = whole.sound in
     let version = version_of psbt.global in
-    let long = inputs_length psbt inputs sound are in
+    let long = inputs_length verification psbt inputs sound are in
     let many = as_many_inputs psbt sound in
     let each = sound.each_input in
     let same = length-map {B = Map} inputs written_map in
-    let fields = fields_are psbt inputs sound are in
+    let fields = fields_are verification psbt inputs sound are in
     let all : AllSame psbt.inputs (map written_map inputs) = subst (λ (maps : List Map). AllSame maps (map written_map inputs)) fields (all_written inputs) in
     let before = subst (λ (maps : List Map). AllByRecursion (IsWholeMap (input_rules version)) maps) (sym fields) (recursion_from_All (IsWholeMap (input_rules version)) psbt.inputs sound.inputs) in
     let after = each_whole version inputs before (recursion_from_All (λ (input : Input). IsGoodMap input.spend.fields (written_map input)) inputs good) in
@@ -105,7 +108,7 @@ whole_again law source psbt fits e inputs are =
     }
 
 pub written_is_read : EachIsSound → WrittenIsReadBack → WrittenIsRead
-written_is_read law back source psbt fits e inputs are = back (finalized psbt inputs) (whole_again law source psbt fits e inputs are).sound
+written_is_read law back source psbt fits e verification inputs are = back (finalized psbt inputs) (whole_again law source psbt fits e verification inputs are).sound
 
 -- ---- its bytes
 

@@ -5,6 +5,7 @@ use Rattle.def_script.specs.Bytes.{Bytes}
 use Rattle.def_psbt.specs.Fields.{IN_PREVIOUS_TXID, IN_REQUIRED_HEIGHT_LOCKTIME}
 use Rattle.def_psbt.specs.Map.{Pair, Psbt, type_of}
 use Rattle.def_psbt.specs.Source.{psbt_of}
+use Rattle.def_spend.specs.declared.Verification.{Verification}
 use Rattle.def_spend.specs.Fields.{is_between}
 use Rattle.def_psbt_answer.specs.declared.status.Status.{Status}
 use Rattle.def_psbt_answer.specs.declared.words.Command.TheVariants as command
@@ -21,11 +22,12 @@ pub record AreAgreeing (psbt later : Psbt) : Type 0 where
   pub transaction : psbt.transaction ≡ later.transaction
   pub others : map (filter is_other) psbt.inputs ≡ map (filter is_other) later.inputs
 
--- sources of two such PSBTs, of whichever versions, have the same answer to all words but those of `finalize` and `combine`, which
--- write a PSBT
+-- sources of two such PSBTs, of whichever versions, have the same answer to all words but those of `finalize`, in both forms, and of
+-- `combine`, which write a PSBT
 abbrev pub VersionsAgree : Type 0
 VersionsAgree =
     (words : List Bytes) (source other : Bytes) (psbt later : Psbt) (status : Status) (report : Bytes) →
     psbt_of source ≡ Ok psbt → psbt_of other ≡ Ok later → AreAgreeing psbt later →
-    request_of words ≢ Some (request.One command.Finalize) → request_of words ≢ Some request.Combine →
+    ((verification : Verification) → request_of words ≢ Some (request.One (command.Finalize verification))) →
+    request_of words ≢ Some request.Combine →
     Answer words source status report → Answer words other status report

@@ -1,6 +1,7 @@
 -- That there is an answer.
 use Rattle.std.specs.Prelude.{List}
 use Rattle.def_script.specs.Bytes.{Bytes, IsBytes}
+use Rattle.def_spend.specs.declared.Verification.{Verification}
 use Rattle.def_spend.specs.Reading.{Input, AreInputs}
 use Rattle.def_psbt_answer.specs.declared.status.Status.{Status}
 use Rattle.def_psbt_answer.specs.Answer.{Answer}
@@ -14,4 +15,4 @@ EachHasAnswer =
 
 -- each input of a PSBT that a source of bytes gives is read as a miniscript, or can't be
 abbrev pub EachIsRead : Type 0
-EachIsRead = OfEachGiven (λ psbt. (inputs : List Input) × AreInputs psbt inputs)
+EachIsRead = OfEachGiven (λ psbt. (verification : Verification) → (inputs : List Input) × AreInputs verification psbt inputs)

@@ -10,6 +10,7 @@ use Rattle.def_psbt.specs.Part.{◌>>=◌, first_bytes, first_number, first_many
 use Rattle.def_psbt.specs.TransactionReading.{first_sides, first_witness, transaction_of, network_transaction_of}
 use Rattle.def_psbt.specs.Forms.{witness_of}
 use Rattle.def_spend.specs.Fields.{FINAL_SCRIPTSIG, field}
+use Rattle.def_spend.specs.declared.Verification.{Verification}
 use Rattle.def_spend.specs.Input.{spends_of}
 use Rattle.def_spend.specs.Reading.{has_byte}
 use Rattle.def_spend.specs.States.{state_of, is_final}
@@ -71,10 +72,11 @@ IdStays =
 -- where each input is Final, the final transaction has the final id that is told, and that of the PSBT's transaction where none is
 abbrev pub IdIsTold : Type 0
 IdIsTold =
-    OfEachPsbt (λ psbt inputs. All (λ input. is_final (state_of input) ≡ true) inputs →
-    id_of (final_transaction psbt) ≡ unwrap_or (final_id psbt.transaction (spends_of psbt)) (id_of psbt.transaction))
+    OfEachPsbt (λ psbt inputs. All (λ input. is_final (state_of input) ≡ true) inputs → (verification : Verification) →
+    id_of (final_transaction psbt) ≡ unwrap_or (final_id psbt.transaction (spends_of verification psbt)) (id_of psbt.transaction))
 
 -- and the final id is told before `finalize` as it is after it
 abbrev pub FinalIdStays : Type 0
 FinalIdStays =
-    OfEachPsbt (λ psbt inputs. final_id psbt.transaction (spends_of (finalized psbt inputs)) ≡ final_id psbt.transaction (spends_of psbt))
+    OfEachPsbt (λ psbt inputs. (verification : Verification) →
+    final_id psbt.transaction (spends_of verification (finalized psbt inputs)) ≡ final_id psbt.transaction (spends_of verification psbt))

@@ -4,6 +4,7 @@ use Rattle.def_script.specs.Bytes.{Bytes, IsBytes}
 use Rattle.def_psbt.specs.Map.{Psbt}
 use Rattle.def_psbt.specs.Reading.{read_psbt}
 use Rattle.def_psbt.specs.Source.{MAX_SOURCE_SIZE, psbt_of}
+use Rattle.def_spend.specs.declared.Verification.{Verification}
 use Rattle.def_spend.specs.Fields.{FINAL_SCRIPTSIG, FINAL_SCRIPTWITNESS, field}
 use Rattle.def_spend.specs.Reading.{Input, has_final, AreInputs}
 use Rattle.def_spend.specs.States.{state_of, is_ready}
@@ -15,7 +16,7 @@ use Rattle.def_psbt_answer.specs.Words.{request_of}
 use Rattle.def_psbt_answer.specs.declared.words.Form.{Form}
 use Rattle.def_psbt_answer.specs.Report.{finalized_text, finalize_report}
 use Rattle.def_psbt_answer.specs.Answer.{Answer}
-use Rattle.ms_given_laws.specs.Given.{OfEachPsbt, OfEachInput}
+use Rattle.ms_given_laws.specs.Given.{OfEachGiven, OfEachPsbt, OfEachInput}
 
 -- the bytes that are written are read as the PSBT with each input that is Ready made final
 abbrev pub WrittenIsRead : Type 0
@@ -33,25 +34,26 @@ ReadyIsMadeFinal = OfEachInput (λ input. is_ready (state_of input) ≡ true →
 -- a report is a source of the same transaction, the same global pairs and the same maps of outputs, and of the map of each
 -- input as it is written: that of a Ready one with its kept pairs and its final fields, that of another one as it was.
 -- None of its inputs is Ready
-pub record IsSourceOf (psbt : Psbt) (inputs : List Input) (report : Bytes) : Type 0 where
+pub record IsSourceOf (verification : Verification) (psbt : Psbt) (inputs : List Input) (report : Bytes) : Type 0 where
   pub written : Psbt
   pub read : psbt_of report ≡ Ok written
   pub transaction : written.transaction ≡ psbt.transaction
   pub global : written.global ≡ psbt.global
   pub outputs : written.outputs ≡ psbt.outputs
   pub maps : written.inputs ≡ map written_map inputs
-  pub none_ready : (again : List Input) → AreInputs written again → All (λ input. is_ready (state_of input) ≡ false) again
+  pub none_ready : (again : List Input) → AreInputs verification written again → All (λ input. is_ready (state_of input) ≡ false) again
 
 -- what `finalize` writes, in either form, is such a source, where it isn't too long
 abbrev pub ReportIsSource : Type 0
 ReportIsSource =
-    OfEachPsbt (λ psbt inputs. (form : Form) → length (finalize_report form psbt inputs) ≤ MAX_SOURCE_SIZE →
-    IsSourceOf psbt inputs (finalize_report form psbt inputs))
+    OfEachGiven (λ psbt. (verification : Verification) (inputs : List Input) → AreInputs verification psbt inputs → (form : Form) →
+    length (finalize_report form psbt inputs) ≤ MAX_SOURCE_SIZE →
+    IsSourceOf verification psbt inputs (finalize_report form psbt inputs))
 
 -- and `finalize` answers to what it wrote, where that isn't too long, as it answered before: the same status and the same
 -- bytes
 abbrev pub AnsweredAgain : Type 0
 AnsweredAgain =
-    (words : List Bytes) (source : Bytes) (psbt : Psbt) (status : Status) (report : Bytes) → IsBytes source →
-    request_of words ≡ Some (request.One command.Finalize) → psbt_of source ≡ Ok psbt → length report ≤ MAX_SOURCE_SIZE →
+    (words : List Bytes) (verification : Verification) (source : Bytes) (psbt : Psbt) (status : Status) (report : Bytes) → IsBytes source →
+    request_of words ≡ Some (request.One (command.Finalize verification)) → psbt_of source ≡ Ok psbt → length report ≤ MAX_SOURCE_SIZE →
     Answer words source status report → Answer words report status report

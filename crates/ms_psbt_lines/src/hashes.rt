@@ -2,7 +2,9 @@
 ghost use Rattle.std.specs.Prelude.{◌≡◌, ◌++◌, codes, decimal, OnOk};
 ghost use Rattle.def_psbt_answer.specs.Lines.{sign_line, check_line};
 
+use crate::names::push_judged;
 use crate::pieces::{push_digits, push_hash, push_named, push_text};
+use def_curve::Judgement;
 use ms_fields::SignedRef;
 use std::alloc::AllocError;
 
@@ -32,14 +34,15 @@ fn push_other_type(report: &mut Vec<u8>, type_number: u32) -> Result<(), AllocEr
     push_text(report, " ")
 }
 
-/// Adds the line of what a signature that is there has to sign: its key, the signature, and the hash, which is `None` where
-/// the signature's last byte is no type. `AllocError` comes only where memory is wanting.
+/// Adds the line of what a signature that is there has to sign: its key, the signature, the hash, which is `None` where the
+/// signature's last byte is no type, and how it is judged, where that is told. `AllocError` comes only where memory is wanting.
 pub fn push_check_line(
     report: &mut Vec<u8>,
     pair: &SignedRef<'_>,
     hash: Option<[u8; 32]>,
+    judgement: Option<Judgement>,
 ) -> Result<(), AllocError>
-    ensures { OnOk result (report.new.items ≡ report.old.items ++ check_line pair.now hash) }
+    ensures { OnOk result (report.new.items ≡ report.old.items ++ check_line pair.now hash judgement) }
 {
     push_text(report, "check ")?;
     push_digits(report, pair.key().as_bytes())?;
@@ -47,5 +50,6 @@ pub fn push_check_line(
     push_digits(report, pair.sig())?;
     push_text(report, " ")?;
     push_hash(report, hash)?;
+    push_judged(report, judgement)?;
     push_text(report, "\n")
 }

@@ -1,11 +1,12 @@
-//! The lines that every input has, and those of its signatures.
-ghost use Rattle.std.specs.Prelude.{◌≡◌, ◌++◌, [], flat_map, OnOk};
+//! The lines that every input has, and that of a signature.
+ghost use Rattle.std.specs.Prelude.{◌≡◌, ◌++◌, [], OnOk};
 ghost use Rattle.def_psbt_answer.specs.Lines.{input_line, outpoint_line, unchecked_line, kind_line, signature_line};
 
-use crate::names::{kind_name, push_state};
+use crate::names::{kind_name, push_judged, push_state};
 use crate::pieces::{push_digits, push_id, push_named, push_number_line, push_text};
+use def_curve::Judgement;
 use def_spend::{Kind, State};
-use ms_fields::{SignedRef, last_byte};
+use ms_fields::last_byte;
 use std::alloc::AllocError;
 
 /// Adds the line of an input: its number from 0, and its state. `AllocError` comes only where memory is wanting.
@@ -50,22 +51,19 @@ pub fn push_kind_line(report: &mut Vec<u8>, kind: Kind) -> Result<(), AllocError
     push_text(report, "\n")
 }
 
-/// Adds a line for each key with its signature, in their order: the key, and the number of the signature's hash type.
-/// `AllocError` comes only where memory is wanting.
-pub fn push_signature_lines(report: &mut Vec<u8>, pairs: &[SignedRef<'_>]) -> Result<(), AllocError>
-    ensures { OnOk result (report.new.items ≡ report.old.items ++ flat_map signature_line pairs.now) }
-{
-    for pair in pairs {
-        push_signature_line(report, pair)?;
-    }
-    Ok(())
-}
-
-/// Adds the line of a key with its signature.
-fn push_signature_line(report: &mut Vec<u8>, pair: &SignedRef<'_>) -> Result<(), AllocError>
-    ensures { OnOk result (report.new.items ≡ report.old.items ++ signature_line pair.now) }
+/// Adds the line of a key with its signature: the key, the number of the signature's last byte, and how it is judged, where that is
+/// told. `AllocError` comes only where memory is wanting.
+pub fn push_signature_line(
+    report: &mut Vec<u8>,
+    key: &[u8],
+    sig: &[u8],
+    judgement: Option<Judgement>,
+) -> Result<(), AllocError>
+    ensures { OnOk result (report.new.items ≡ report.old.items ++ signature_line (key.now, sig.now) judgement) }
 {
     push_text(report, "signature ")?;
-    push_digits(report, pair.key().as_bytes())?;
-    push_number_line(report, " ", last_byte(pair.sig()) as u64)
+    push_digits(report, key)?;
+    push_named(report, " ", last_byte(sig) as u64)?;
+    push_judged(report, judgement)?;
+    push_text(report, "\n")
 }

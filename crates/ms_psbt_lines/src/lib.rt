@@ -6,12 +6,12 @@ pub use amounts::{push_claimed_amount_line, push_proved_amount_line, push_unknow
 pub use fees::push_fee_line;
 pub use hashes::{push_check_line, push_sign_line};
 pub use inputs::{
-    push_input_line, push_kind_line, push_outpoint_line, push_signature_lines, push_unchecked_line,
+    push_input_line, push_kind_line, push_outpoint_line, push_signature_line, push_unchecked_line,
 };
 pub use refusals::{push_combine_refusal_line, push_not_final_line, push_refusal_line};
 pub use transactions::{Summary, push_final_id_line, push_output_line, push_psbt_line};
 pub use trees::{push_ask_line, push_no_plan_line, push_policy_line, push_tree_line};
-pub use verdicts::{push_flaw_line, push_open_line, push_passed_line, push_valid_line};
+pub use verdicts::{push_flaw_line, push_open_line, push_valid_line};
 pub use weights::{push_most_weight_line, push_weight_line};
 
 mod amounts;

@@ -1,8 +1,10 @@
 //! Names as reports print them.
-ghost use Rattle.std.specs.Prelude.{◌≡◌, ◌++◌, OnOk};
-ghost use Rattle.def_psbt_answer.specs.Names.{fault_name as the_fault_name, kind_name as the_kind_name, state_name};
+ghost use Rattle.std.specs.Prelude.{◌≡◌, ◌++◌, Some, OnOk};
+ghost use Rattle.def_psbt_answer.specs.Lines.{judged_text};
+ghost use Rattle.def_psbt_answer.specs.Names.{fault_name as the_fault_name, judgement_name as the_judgement_name, kind_name as the_kind_name, state_name};
 
 use crate::pieces::push_text;
+use def_curve::Judgement;
 use def_psbt::PsbtFault;
 use def_spend::{Kind, State, Unfit};
 use ms_report::rule_name;
@@ -33,7 +35,9 @@ pub fn kind_name(kind: Kind) -> &'static str
 {
     match kind {
         Kind::P2wsh => "p2wsh",
+        Kind::P2wpkh => "p2wpkh",
         Kind::P2shP2wsh => "p2sh-p2wsh",
+        Kind::P2shP2wpkh => "p2sh-p2wpkh",
         Kind::Other => "other",
     }
 }
@@ -75,4 +79,33 @@ fn push_unfit(report: &mut Vec<u8>, unfit: Unfit) -> Result<(), AllocError>
     };
     push_text(report, name)?;
     push_text(report, rule)
+}
+
+/// Adds how a signature is judged, where that is told.
+pub fn push_judged(report: &mut Vec<u8>, judgement: Option<Judgement>) -> Result<(), AllocError>
+    ensures { OnOk result (report.new.items ≡ report.old.items ++ judged_text judgement) }
+{
+    match judgement {
+        None => Ok(()),
+        Some(judgement) => push_judgement(report, judgement),
+    }
+}
+
+/// Adds the name of a judgement behind a space.
+fn push_judgement(report: &mut Vec<u8>, judgement: Judgement) -> Result<(), AllocError>
+    ensures { OnOk result (report.new.items ≡ report.old.items ++ judged_text (Some judgement)) }
+{
+    push_text(report, " ")?;
+    push_text(report, judgement_name(judgement))
+}
+
+/// The name of a judgement. Takes no memory.
+fn judgement_name(judgement: Judgement) -> &'static str
+    ensures { result.now ≡ the_judgement_name judgement }
+{
+    match judgement {
+        Judgement::Bad => "bad",
+        Judgement::High => "high",
+        Judgement::Good => "good",
+    }
 }

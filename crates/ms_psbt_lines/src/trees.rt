@@ -1,6 +1,6 @@
 //! The lines of an input's miniscript, and of the keys to ask.
 ghost use Rattle.std.specs.Prelude.{◌≡◌, ◌++◌, OnOk};
-ghost use Rattle.def_tree.specs.Range.{IsInRange};
+ghost use Rattle.def_tree.specs.InRange.{IsInRange};
 ghost use Rattle.def_policy.specs.Print.{printed as printed_policy};
 ghost use Rattle.def_sane.specs.Unfit.{IsSane};
 ghost use Rattle.def_answer.specs.Decode.{decode_report as the_decode_report};

@@ -1,19 +1,15 @@
 //! The lines of what is said of inputs with final fields.
 ghost use Rattle.std.specs.Prelude.{◌≡◌, ◌++◌, codes, decimal, OnOk};
-ghost use Rattle.hex.specs.Hex.{encode_lower};
 ghost use Rattle.def_answer.specs.Lines.{line};
 ghost use Rattle.def_psbt_answer.specs.Names.{state_name};
-ghost use Rattle.def_psbt_answer.specs.Verified.{judgement_name as the_judgement_name, flaw_text, flaw_word as the_flaw_word};
-ghost use Rattle.def_spend.specs.Fields.{last_byte as the_last_byte};
+ghost use Rattle.def_psbt_answer.specs.Verified.{flaw_text, flaw_word as the_flaw_word};
 ghost use Rattle.def_verify.specs.Verdict.{is_unknown as the_is_unknown, is_unsupported as the_is_unsupported};
 
 use crate::names::push_state;
-use crate::pieces::{push_digits, push_named, push_text};
-use def_curve::Judgement;
+use crate::pieces::{push_named, push_text};
 use def_machine::ScriptFault;
 use def_spend::State;
 use def_verify::Flaw;
-use ms_fields::last_byte;
 use ms_report::script_fault_name;
 use std::alloc::AllocError;
 
@@ -45,36 +41,6 @@ pub fn push_flaw_line(report: &mut Vec<u8>, number: usize, flaw: Flaw) -> Result
     push_text(report, flaw_word(flaw))?;
     push_flaw(report, flaw)?;
     push_text(report, "\n")
-}
-
-/// Adds the line of a pair that passed: the key, the number of the signature's last byte, and its judgement. `AllocError` comes only
-/// where memory is wanting.
-pub fn push_passed_line(
-    report: &mut Vec<u8>,
-    key: &[u8],
-    sig: &[u8],
-    judgement: Judgement,
-) -> Result<(), AllocError>
-    ensures { OnOk result (report.new.items ≡ report.old.items
-        ++ line (codes "signature " ++ encode_lower key.now ++ codes " " ++ decimal (the_last_byte sig.now) ++ codes " " ++ the_judgement_name judgement)) }
-{
-    push_text(report, "signature ")?;
-    push_digits(report, key)?;
-    push_named(report, " ", last_byte(sig) as u64)?;
-    push_text(report, " ")?;
-    push_text(report, judgement_name(judgement))?;
-    push_text(report, "\n")
-}
-
-/// The name of a judgement.
-fn judgement_name(judgement: Judgement) -> &'static str
-    ensures { result.now ≡ the_judgement_name judgement }
-{
-    match judgement {
-        Judgement::Bad => "bad",
-        Judgement::High => "high",
-        Judgement::Good => "good",
-    }
 }
 
 /// Whether a flaw leaves open that the input is valid, as a word.

@@ -4,6 +4,7 @@ use Rattle.std.specs.List.{flat_map, list_all}
 use Rattle.std.proofs.lemmas.List.{flat_map_more, map_push}
 use Rattle.def_script.specs.Bytes.{Bytes}
 use Rattle.def_psbt.specs.Map.{Psbt, magic, map_text}
+use Rattle.def_spend.specs.declared.Verification.{Verification}
 use Rattle.def_spend.specs.Input.{spends_of}
 use Rattle.def_spend.specs.Reading.{Input, HasReading, AreInputs}
 use Rattle.def_spend.specs.Finalized.{written_map}
@@ -33,19 +34,19 @@ pub and_not : (before now is : Bool) → before ≡ false → now ≡ false → 
 and_not before now is e h = h ∙ ap (λ b. b && is) (sym e)
 
 -- an input more is written
-pub written_more : (psbt : Psbt) (inputs : List Input) (number : ℕ) (input : Input) (before after : Written) → AreInputs psbt inputs
-    → slice_get (spends_of psbt) number ≡ Some input.spend → HasReading input → IsWritten psbt (take number inputs) before
+pub written_more : (verification : Verification) (psbt : Psbt) (inputs : List Input) (number : ℕ) (input : Input) (before after : Written) → AreInputs verification psbt inputs
+    → slice_get (spends_of verification psbt) number ≡ Some input.spend → HasReading input → IsWritten psbt (take number inputs) before
     → after.text.items ≡ before.text.items ++ map_text (written_map input) → after.are_settled ≡ (before.are_settled && is_settled input)
     → IsWritten psbt (take (number + 1) inputs) after
-written_more psbt inputs number input before after are there read is text settled =
-    subst (λ (xs : List Input). IsWritten psbt xs after) (sym (taken_more psbt inputs number input are there read))
+written_more verification psbt inputs number input before after are there read is text settled =
+    subst (λ (xs : List Input). IsWritten psbt xs after) (sym (taken_more verification psbt inputs number input are there read))
     (record {
       text = text_more (magic ++ map_text psbt.global) (take number inputs) input before.text.items after.text.items is.text text;
       settled = settled_more (take number inputs) input before.are_settled after.are_settled is.settled settled;
     })
 
 -- all inputs are written
-pub all_written : (psbt : Psbt) (inputs : List Input) (count number : ℕ) (written : Written) → AreInputs psbt inputs → count ≡ length psbt.inputs
+pub all_written : (verification : Verification) (psbt : Psbt) (inputs : List Input) (count number : ℕ) (written : Written) → AreInputs verification psbt inputs → count ≡ length psbt.inputs
     → count ≡ length psbt.transaction.inputs → count ≤ number → IsWritten psbt (take number inputs) written → IsWritten psbt inputs written
-all_written psbt inputs count number written are maps own past is =
-    subst (λ (xs : List Input). IsWritten psbt xs written) (all_taken psbt inputs count number are maps own past) is
+all_written verification psbt inputs count number written are maps own past is =
+    subst (λ (xs : List Input). IsWritten psbt xs written) (all_taken verification psbt inputs count number are maps own past) is

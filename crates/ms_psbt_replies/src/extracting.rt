@@ -1,5 +1,6 @@
 //! `extract`: the network transaction of a PSBT whose inputs are all Final.
 ghost use Rattle.std.specs.Prelude.{◌≡◌, List, IfOk};
+ghost use Rattle.def_spend.specs.declared.Verification.TheVariants.{Unverified};
 ghost use Rattle.def_spend.specs.Reading.{Input as TheInput, AreInputs};
 ghost use Rattle.def_psbt_answer.specs.Reply.{reply, extract_reply};
 
@@ -12,7 +13,7 @@ use std::alloc::{AllocError, Global};
 
 /// The digits of the network transaction, where there is an input and each is Final; else the first one that isn't.
 pub fn extract(alloc: Global, psbt: &Psbt<'_>) -> Result<Reply, AllocError>
-    ensures { IfOk result (λ made. (inputs : List TheInput) → AreInputs psbt.now inputs → reply made.status made.report.items ≡ extract_reply psbt.now inputs) }
+    ensures { IfOk result (λ made. (inputs : List TheInput) → AreInputs Unverified psbt.now inputs → reply made.status made.report.items ≡ extract_reply psbt.now inputs) }
 {
     if psbt.input_count() == 0 {
         return not_final(alloc, 0);

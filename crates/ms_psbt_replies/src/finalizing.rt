@@ -7,14 +7,16 @@ ghost use Rattle.def_psbt_answer.specs.declared.words.Command.TheVariants.{Final
 ghost use Rattle.def_psbt_answer.specs.Reply.{reply, command_reply};
 ghost use Rattle.ms_input.specs.Seen.{input_seen};
 ghost use Rattle.ms_transaction.specs.Unsigned.{IsUnsigned};
+ghost use Rattle.ms_input.specs.Verified.{IsVerifying, verification_of};
 ghost use Rattle.ms_psbt_replies.specs.Scaffolding.Written.{IsWritten, WritesNext};
 
 use crate::reply::Reply;
 use bumpalo::Bump;
 use def_psbt_answer::{Form, Status};
-use ms_input::{Input, State};
+use def_spend::Verification;
+use ms_input::{Input, State, Verifying};
 use ms_psbt::Psbt;
-use ms_psbt_report::is_settled;
+use ms_psbt_report::{is_settled, next_output, shared_for, verifying_by};
 use ms_psbt_write::{begin_psbt, finish_psbt, in_form, push_final_map, push_map};
 use ms_transaction::{TransactionRef, unsigned_transaction};
 use std::alloc::{AllocError, Global};
@@ -28,12 +30,18 @@ pub struct Written {
     pub are_settled: bool,
 }
 
-/// The PSBT with each input that is Ready made final, in a form. Nothing else of it is touched.
+/// The PSBT with each input that is Ready made final, in a form, where signatures are verified or aren't. Nothing else of it is touched.
 #[tactic(auto, unfolding(def_psbt_answer::specs::Report::finalize_report))]
-pub fn finalize<'p>(alloc: Global, form: Form, psbt: &'p Psbt<'p>) -> Result<Reply, AllocError>
-    ensures { IfOk result (λ made. (inputs : List TheInput) → AreInputs psbt.entry.now inputs → reply made.status made.report.items ≡ command_reply Finalize form psbt.entry.now inputs) }
+pub fn finalize<'p>(
+    alloc: Global,
+    verification: Verification,
+    form: Form,
+    psbt: &'p Psbt<'p>,
+) -> Result<Reply, AllocError>
+    ensures { IfOk result (λ made. (inputs : List TheInput) → AreInputs verification psbt.entry.now inputs
+        → reply made.status made.report.items ≡ command_reply (Finalize verification) form psbt.entry.now inputs) }
 {
-    let mut written = write_inputs(alloc, psbt)?;
+    let mut written = write_inputs(alloc, verification, psbt)?;
     finish_psbt(&mut written.text, psbt)?;
     Ok(Reply {
         status: status_of(written.are_settled),
@@ -42,35 +50,44 @@ pub fn finalize<'p>(alloc: Global, form: Form, psbt: &'p Psbt<'p>) -> Result<Rep
 }
 
 /// What is written before the maps of outputs.
-fn write_inputs<'p>(alloc: Global, psbt: &'p Psbt<'p>) -> Result<Written, AllocError>
-    ensures { IfOk result (λ written. (inputs : List TheInput) → AreInputs psbt.entry.now inputs → IsWritten psbt.entry.now inputs written) }
+fn write_inputs<'p>(
+    alloc: Global,
+    verification: Verification,
+    psbt: &'p Psbt<'p>,
+) -> Result<Written, AllocError>
+    ensures { IfOk result (λ written. (inputs : List TheInput) → AreInputs verification psbt.entry.now inputs → IsWritten psbt.entry.now inputs written) }
 {
     let transaction = unsigned_transaction(psbt);
+    let shared = shared_for(verification, &transaction);
+    let mut outputs = transaction.outputs();
     let mut written = Written {
         text: begin_psbt(alloc, psbt)?,
         are_settled: true,
     };
     for number in 0..psbt.input_count() {
-        write_input(alloc, psbt, &transaction, number, &mut written)?;
+        let verifying = verifying_by(&shared, next_output(&mut outputs));
+        write_input(alloc, psbt, &transaction, number, verifying, &mut written)?;
     }
     Ok(written)
 }
 
-/// Adds the map of the input with this number, made final where it is Ready.
+/// Adds the map of the input with this number, made final where it is Ready. Its signatures are verified by this, or aren't.
 fn write_input<'p>(
     alloc: Global,
     psbt: &'p Psbt<'p>,
     transaction: &TransactionRef<'p>,
     number: usize,
+    verifying: Verifying<'_>,
     written: &mut Written,
 ) -> Result<(), AllocError>
     requires transaction { transaction.now ≡ psbt.now.transaction }
     requires unsigned { All IsUnsigned transaction.now.inputs }
     requires number { number < length psbt.now.inputs }
-    ensures { (inputs : List TheInput) → AreInputs psbt.entry.now inputs → WritesNext psbt.entry.now inputs number written.old written.new result }
+    requires verifying { IsVerifying verifying transaction.now number }
+    ensures { (inputs : List TheInput) → AreInputs (verification_of verifying.entry) psbt.entry.now inputs → WritesNext psbt.entry.now inputs number written.old written.new result }
 {
     let arena = Bump::new(alloc);
-    let input = Input::read(alloc, &arena, psbt, transaction, number)?;
+    let input = Input::read(alloc, &arena, psbt, transaction, number, verifying)?;
     add_map(alloc, psbt, &input, number, &mut written.text)?;
     written.are_settled = written.are_settled && is_settled(input.state());
     Ok(())

@@ -1,8 +1,9 @@
 //! The reply to what is asked, with the bytes that the source held.
 ghost use Rattle.std.specs.Prelude.{◌≡◌, List, IfOk};
 ghost use Rattle.def_psbt.specs.Source.{psbt_of};
+ghost use Rattle.def_spend.specs.declared.Verification.TheVariants.{Verified};
 ghost use Rattle.def_spend.specs.Reading.{Input as TheInput, AreInputs};
-ghost use Rattle.def_psbt_answer.specs.Answer.{RepliesToSource, RepliesToRequest};
+ghost use Rattle.def_psbt_answer.specs.Answer.{verification_of, RepliesToSource, RepliesToRequest};
 ghost use Rattle.def_psbt_answer.specs.Reply.{reply, form_of as the_form_of, verify_status, command_reply as the_command_reply};
 ghost use Rattle.def_psbt_answer.specs.Verified.{verify_report};
 
@@ -63,21 +64,22 @@ fn command_reply<'p>(
     form: Form,
     psbt: &'p Psbt<'p>,
 ) -> Result<Reply, AllocError>
-    ensures { IfOk result (λ made. (inputs : List TheInput) → AreInputs psbt.entry.now inputs → reply made.status made.report.items ≡ the_command_reply command form psbt.entry.now inputs) }
+    ensures { IfOk result (λ made. (inputs : List TheInput) → AreInputs (verification_of command) psbt.entry.now inputs
+        → reply made.status made.report.items ≡ the_command_reply command form psbt.entry.now inputs) }
 {
     match command {
-        Command::Finalize => finalize(alloc, form, psbt),
-        Command::Inspect => {
-            let made = inspect(alloc, psbt)?;
+        Command::Finalize(verification) => finalize(alloc, verification, form, psbt),
+        Command::Inspect(verification) => {
+            let made = inspect(alloc, verification, psbt)?;
             Ok(Reply {
                 status: made.status,
                 report: made.report,
             })
         }
         Command::Extract => extract(alloc, psbt),
-        Command::Hashes => Ok(Reply {
+        Command::Hashes(verification) => Ok(Reply {
             status: Status::Done,
-            report: hashes(alloc, psbt)?,
+            report: hashes(alloc, verification, psbt)?,
         }),
         Command::Verify => verified(alloc, psbt),
     }
@@ -85,7 +87,7 @@ fn command_reply<'p>(
 
 /// Whether the final fields of each input of a PSBT are valid.
 fn verified<'p>(alloc: Global, psbt: &'p Psbt<'p>) -> Result<Reply, AllocError>
-    ensures { IfOk result (λ made. (inputs : List TheInput) → AreInputs psbt.entry.now inputs → reply made.status made.report.items ≡ reply (verify_status inputs) (verify_report inputs)) }
+    ensures { IfOk result (λ made. (inputs : List TheInput) → AreInputs Verified psbt.entry.now inputs → reply made.status made.report.items ≡ reply (verify_status inputs) (verify_report inputs)) }
 {
     let made = verify(alloc, psbt)?;
     Ok(Reply {

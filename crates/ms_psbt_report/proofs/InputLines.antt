@@ -9,17 +9,18 @@ use Rattle.def_tree.specs.Tree.{Key, Tree}
 use Rattle.def_assets.specs.Assets.{Assets}
 use Rattle.def_plan.specs.Plan.{Plan}
 use Rattle.def_policy.specs.Print.{printed as printed_policy}
+use Rattle.def_curve.specs.declared.Judgement.{Judgement}
 use Rattle.def_spend.specs.declared.State.{State}
 use Rattle.def_spend.specs.Asking.{plan_with}
-use Rattle.def_spend.specs.Fields.{signatures_in, last_byte, asked_type}
+use Rattle.def_spend.specs.Fields.{signatures_in, asked_type, last_byte}
 use Rattle.def_spend.specs.Hashes.{hash_by}
 use Rattle.def_spend.specs.Input.{Spend}
 use Rattle.def_spend.specs.States.{is_read, is_sane}
 use Rattle.def_answer.specs.Decode.{decode_report}
 use Rattle.def_answer.specs.Policy.{policy_of}
 use Rattle.def_answer.specs.Plan.{ask_line, weight_line}
-use Rattle.def_psbt_answer.specs.Lines.{policy_line, sign_line, check_line}
-use Rattle.def_psbt_answer.specs.Report.{plan_lines, last_lines, tree_lines, hash_lines}
+use Rattle.def_psbt_answer.specs.Lines.{policy_line, signature_line, sign_line, check_line}
+use Rattle.def_psbt_answer.specs.Report.{plan_lines, last_lines, tree_lines, word_by, told_word, signature_lines, checked_line, hash_lines}
 use Rattle.ms_asking.specs.Asked.{asked_plan}
 use Rattle.ms_psbt_report.proofs.Asked.{asked_lines, lines_asked}
 
@@ -28,10 +29,16 @@ pub no_more : {X : Type 0} (f : X → Bytes) (before all : Bytes) (xs : List X) 
 no_more f before all xs i past h =
     sym (append-nil before) ∙ subst (λ ds. before ++ flat_map f ds ≡ all) (drop_all i xs past) h
 
+-- the lines of all signatures, by those that were told
+pub all_signed : (before after : Bytes) (s : State) (spend : Spend) (pairs : Pairs) → pairs ≡ signatures_in spend.fields
+    → after ≡ before ++ flat_map (λ pair. signature_line pair (told_word (is_sane s) spend pair)) pairs → after ≡ before ++ signature_lines s spend
+all_signed before after s spend pairs are e =
+    e ∙ ap (λ (ps : Pairs). before ++ flat_map (λ pair. signature_line pair (told_word (is_sane s) spend pair)) ps) are
+
 -- ---- hashes
 
 abbrev pub checks : Spend → Pairs → Bytes
-checks spend = flat_map (λ pair. check_line pair (hash_by (last_byte pair.1) spend))
+checks spend = flat_map (checked_line spend)
 
 pub hashed : (spend : Spend) (asked : ℕ) (hash : Option Bytes) (pairs : Pairs) (before between after : Bytes) → asked ≡ asked_type spend.fields
     → hash ≡ hash_by asked spend → pairs ≡ signatures_in spend.fields → between ≡ before ++ sign_line asked hash → after ≡ between ++ checks spend pairs
@@ -42,6 +49,12 @@ hashed spend asked hash pairs before between after is_asked is_hash are e1 e2 =
     ∙ ap (λ h. (before ++ sign_line asked h) ++ checks spend (signatures_in spend.fields)) is_hash
     ∙ ap (λ a. (before ++ sign_line a (hash_by a spend)) ++ checks spend (signatures_in spend.fields)) is_asked
     ∙ append_assoc before (sign_line (asked_type spend.fields) (hash_by (asked_type spend.fields) spend)) (checks spend (signatures_in spend.fields))
+
+-- the line of a signature, by its hash and its word
+pub check_told : (before : Bytes) (spend : Spend) (pair : Bytes × Bytes) (hash : Option Bytes) (word : Option Judgement) → hash ≡ hash_by (last_byte pair.1) spend
+    → word ≡ word_by spend.verification spend pair → before ++ check_line pair hash word ≡ before ++ checked_line spend pair
+check_told before spend pair hash word is told =
+    ap (λ h. before ++ check_line pair h word) is ∙ ap (λ w. before ++ check_line pair (hash_by (last_byte pair.1) spend) w) told
 
 -- ---- the miniscript
 

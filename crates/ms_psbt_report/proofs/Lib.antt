@@ -1,5 +1,8 @@
 mod Sums
 mod Lists
+pub mod Walked
+mod Judged
+mod Verified
 mod Asked
 pub mod AllTold
 pub mod Spends
@@ -7,4 +10,4 @@ pub mod Loops
 mod LastLines
 mod KindLines
 mod InputLines
-mod Verdicts
+mod Validity

@@ -3,4 +3,5 @@ pub mod Sums
 pub mod FinalIds
 pub mod Told
 pub mod Tables
+pub mod Words
 pub mod Lines

@@ -5,17 +5,23 @@ ghost use Rattle.def_psbt_answer.specs.Report.{hashes_report};
 ghost use Rattle.ms_sighash.specs.Shared.{IsOutputText};
 
 use crate::inputs::push_input_hashes;
+use crate::shared::verifying_with;
 use bumpalo::Bump;
+use def_spend::Verification;
 use ms_input::{Input, shared_hashes};
 use ms_psbt::Psbt;
 use ms_transaction::{Outputs, unsigned_transaction};
 use std::alloc::{AllocError, Global};
 
-/// What the signatures of each input of a PSBT sign (BIP 143). What all of them share is hashed once. Refuses for want of memory
-/// alone.
+/// What the signatures of each input of a PSBT sign (BIP 143), and how those that are there are judged, where they are verified. What all
+/// of them share is hashed once. Refuses for want of memory alone.
 #[tactic(auto, unfolding(def_psbt_answer::specs::Report::hashes_report))]
-pub fn hashes<'p>(alloc: Global, psbt: &'p Psbt<'p>) -> Result<Vec<u8>, AllocError>
-    ensures { IfOk result (λ report. (inputs : List TheInput) → AreInputs psbt.entry.now inputs → report.items ≡ hashes_report inputs) }
+pub fn hashes<'p>(
+    alloc: Global,
+    verification: Verification,
+    psbt: &'p Psbt<'p>,
+) -> Result<Vec<u8>, AllocError>
+    ensures { IfOk result (λ report. (inputs : List TheInput) → AreInputs verification psbt.entry.now inputs → report.items ≡ hashes_report inputs) }
 {
     let transaction = unsigned_transaction(psbt);
     let shared = shared_hashes(&transaction);
@@ -23,9 +29,10 @@ pub fn hashes<'p>(alloc: Global, psbt: &'p Psbt<'p>) -> Result<Vec<u8>, AllocErr
     let mut report = Vec::new(alloc);
     for number in 0..psbt.input_count() {
         let arena = Bump::new(alloc);
-        let input = Input::read(alloc, &arena, psbt, &transaction, number)?;
         let output = next_output(&mut outputs);
-        push_input_hashes(&mut report, &input, &shared, output)?;
+        let verifying = verifying_with(verification, &shared, output);
+        let input = Input::read(alloc, &arena, psbt, &transaction, number, verifying)?;
+        push_input_hashes(&mut report, &input, verification, &shared, output)?;
     }
     Ok(report)
 }

@@ -7,17 +7,22 @@ ghost use Rattle.def_psbt_answer.specs.Reply.{settled_status};
 ghost use Rattle.def_psbt_answer.specs.Report.{inspect_report};
 ghost use Rattle.ms_input.specs.Seen.{input_seen};
 ghost use Rattle.ms_transaction.specs.Unsigned.{IsUnsigned};
+ghost use Rattle.ms_input.specs.Verified.{IsVerifying, verification_of};
+ghost use Rattle.ms_psbt_report.specs.Verifying.{IsVerifiedBy};
 ghost use Rattle.ms_psbt_report.specs.Scaffolding.Lines.{money_lines};
 ghost use Rattle.ms_psbt_report.specs.Scaffolding.Told.{AreTold};
 
 use crate::final_id::FinalId;
+use crate::hashing::next_output;
 use crate::inputs::push_input_report;
+use crate::shared::{shared_for, verifying_by};
 use crate::spent::Spent;
 use crate::states::is_settled;
 use crate::transactions::{push_outputs, push_transaction};
 use bumpalo::Bump;
 use def_psbt_answer::Status;
-use ms_input::{Input, State};
+use def_spend::Verification;
+use ms_input::{Input, State, Verifying};
 use ms_psbt::Psbt;
 use ms_psbt_lines::{push_fee_line, push_final_id_line};
 use ms_transaction::{TransactionRef, unsigned_transaction};
@@ -45,17 +50,21 @@ pub struct Told {
     pub are_settled: bool,
 }
 
-/// What the transaction of a PSBT does with the money, and of each input what it is, what it demands, and what is missing. Each
-/// input is read once. Refuses for want of memory alone.
+/// What the transaction of a PSBT does with the money, and of each input what it is, what it demands, and what is missing, where its
+/// signatures are verified or aren't. Each input is read once. Refuses for want of memory alone.
 #[tactic(auto, unfolding(def_psbt_answer::specs::Report::inspect_report))]
-pub fn inspect<'p>(alloc: Global, psbt: &'p Psbt<'p>) -> Result<Inspection, AllocError>
-    ensures status { IfOk result (λ made. (inputs : List TheInput) → AreInputs psbt.entry.now inputs → made.status ≡ settled_status inputs) }
-    ensures report { IfOk result (λ made. (inputs : List TheInput) → AreInputs psbt.entry.now inputs → made.report.items ≡ inspect_report psbt.entry.now.transaction inputs) }
+pub fn inspect<'p>(
+    alloc: Global,
+    verification: Verification,
+    psbt: &'p Psbt<'p>,
+) -> Result<Inspection, AllocError>
+    ensures status { IfOk result (λ made. (inputs : List TheInput) → AreInputs verification psbt.entry.now inputs → made.status ≡ settled_status inputs) }
+    ensures report { IfOk result (λ made. (inputs : List TheInput) → AreInputs verification psbt.entry.now inputs → made.report.items ≡ inspect_report psbt.entry.now.transaction inputs) }
 {
     // Its clauses tell that each input has a map.
     let _count = psbt.input_count();
     let transaction = unsigned_transaction(psbt);
-    let told = tell_inputs(alloc, psbt, &transaction)?;
+    let told = tell_inputs(alloc, verification, psbt, &transaction)?;
     Ok(Inspection {
         status: status_of(told.are_settled),
         report: with_money(
@@ -101,12 +110,13 @@ fn status_of(are_settled: bool) -> Status
 /// What all inputs tell.
 fn tell_inputs<'p>(
     alloc: Global,
+    verification: Verification,
     psbt: &'p Psbt<'p>,
     transaction: &TransactionRef<'p>,
 ) -> Result<Told, AllocError>
     requires transaction { transaction.now ≡ psbt.now.transaction }
     requires unsigned { All IsUnsigned transaction.now.inputs }
-    ensures { IfOk result (λ told. (inputs : List TheInput) → AreInputs psbt.entry.now inputs → AreTold transaction.now inputs told) }
+    ensures { IfOk result (λ told. (inputs : List TheInput) → AreInputs verification psbt.entry.now inputs → AreTold transaction.now inputs told) }
 {
     let mut told = Told {
         lines: Vec::new(alloc),
@@ -117,8 +127,11 @@ fn tell_inputs<'p>(
         id: FinalId::new(transaction),
         are_settled: true,
     };
+    let shared = shared_for(verification, transaction);
+    let mut outputs = transaction.outputs();
     for number in 0..psbt.input_count() {
-        tell_input(alloc, psbt, transaction, number, &mut told)?;
+        let verifying = verifying_by(&shared, next_output(&mut outputs));
+        tell_input(alloc, psbt, transaction, number, verifying, &mut told)?;
     }
     Ok(told)
 }
@@ -129,28 +142,36 @@ fn tell_input<'p>(
     psbt: &'p Psbt<'p>,
     transaction: &TransactionRef<'p>,
     number: usize,
+    verifying: Verifying<'_>,
     told: &mut Told,
 ) -> Result<(), AllocError>
     requires transaction { transaction.now ≡ psbt.now.transaction }
     requires unsigned { All IsUnsigned transaction.now.inputs }
     requires number { number < length psbt.now.inputs }
+    requires verifying { IsVerifying verifying transaction.now number }
     requires most { IfSome told.old.spent.satoshis (λ satoshis. satoshis ≤ number * 0xffff_ffff_ffff_ffff) }
-    ensures told { (inputs : List TheInput) → AreInputs psbt.entry.now inputs → AreTold transaction.now (take number inputs) told.old
+    ensures told { (inputs : List TheInput) → AreInputs (verification_of verifying.entry) psbt.entry.now inputs → AreTold transaction.now (take number inputs) told.old
         → OnOk result (AreTold transaction.now (take (number + 1) inputs) told.new) }
     ensures most { OnOk result (IfSome told.new.spent.satoshis (λ satoshis. satoshis ≤ (number + 1) * 0xffff_ffff_ffff_ffff)) }
 {
     let arena = Bump::new(alloc);
-    let input = Input::read(alloc, &arena, psbt, transaction, number)?;
-    add_input(alloc, told, &input)
+    let input = Input::read(alloc, &arena, psbt, transaction, number, verifying)?;
+    add_input(alloc, told, &input, &verifying)
 }
 
 /// Adds what an input tells to what those before it told.
-fn add_input(alloc: Global, told: &mut Told, input: &Input<'_, '_>) -> Result<(), AllocError>
-    requires { IfSome told.old.spent.satoshis (λ satoshis. satoshis + 2 ^ 64 ≤ 2 ^ 128) }
+fn add_input(
+    alloc: Global,
+    told: &mut Told,
+    input: &Input<'_, '_>,
+    verifying: &Verifying<'_>,
+) -> Result<(), AllocError>
+    requires verifying { IsVerifiedBy input.now.spend verifying.now }
+    requires most { IfSome told.old.spent.satoshis (λ satoshis. satoshis + 2 ^ 64 ≤ 2 ^ 128) }
     ensures told { (transaction : Transaction) (inputs : List TheInput) → AreTold transaction inputs told.old → OnOk result (AreTold transaction (inputs ++ input_seen input.now ∷ []) told.new) }
     ensures most { (most : ℕ) → IfSome told.old.spent.satoshis (λ satoshis. satoshis ≤ most) → OnOk result (IfSome told.new.spent.satoshis (λ satoshis. satoshis ≤ most + 0xffff_ffff_ffff_ffff)) }
 {
-    push_input_report(alloc, &mut told.lines, input)?;
+    push_input_report(alloc, &mut told.lines, input, verifying)?;
     told.spent = told.spent.with(input.amount());
     told.id.add(alloc, input)?;
     told.are_settled = stay_settled(told.are_settled, input.state());

@@ -1,7 +1,7 @@
 //! What `inspect` prints of an input's miniscript: as far as its state goes, and what is lacking.
 ghost use Rattle.std.specs.Prelude.{◌≡◌, ◌++◌, Some, flat_map, IsTrue, OnOk};
 ghost use Rattle.def_script.specs.Witness.{weight};
-ghost use Rattle.def_tree.specs.Range.{IsInRange};
+ghost use Rattle.def_tree.specs.InRange.{IsInRange};
 ghost use Rattle.def_tree.specs.Tree.{Tree as TheTree};
 ghost use Rattle.def_sane.specs.Unfit.{IsSane};
 ghost use Rattle.def_spend.specs.States.{state_of, stack_of, is_sane as the_is_sane};

@@ -2,6 +2,7 @@
 ghost use Rattle.std.specs.Prelude.{◌≡◌, ◌&&◌, ◌++◌, if◌then◌else◌, List, flat_map, length, slice_get, IfOk, OnOk};
 ghost use Rattle.def_psbt_answer.specs.Reply.{verify_status};
 ghost use Rattle.def_psbt_answer.specs.Verified.{input_verdict, passed_line, verdict_lines, verify_report};
+ghost use Rattle.def_spend.specs.declared.Verification.TheVariants.{Verified};
 ghost use Rattle.def_spend.specs.Input.{Spend};
 ghost use Rattle.def_spend.specs.Reading.{Input as TheInput, AreInputs};
 ghost use Rattle.def_verify.specs.Verdict.{final_verdict as the_final_verdict, is_valid as the_is_valid, verdict_of};
@@ -10,20 +11,22 @@ ghost use Rattle.ms_sighash.specs.Shared.{shared_of, IsOutputText};
 ghost use Rattle.ms_verify.specs.Signing.{IsAsked};
 
 use crate::hashing::next_output;
+use crate::shared::verifying_with;
 use crate::states::is_final;
 use bumpalo::Bump;
 use def_psbt_answer::Status;
+use def_spend::Verification;
 use ms_input::{ConsensusCheck, Input, Verdict, shared_hashes};
 use ms_oracle::SigPair;
 use ms_psbt::Psbt;
-use ms_psbt_lines::{push_flaw_line, push_open_line, push_passed_line, push_valid_line};
+use ms_psbt_lines::{push_flaw_line, push_open_line, push_signature_line, push_valid_line};
 use ms_sighash::SharedHashes;
 use ms_transaction::unsigned_transaction;
 use std::alloc::{AllocError, Global};
 
 /// What `verify` answers.
 #[derive(Debug, Drop)]
-pub struct Verification {
+pub struct Verdicts {
     /// Done where each input is valid, else Open.
     pub status: Status,
     /// The lines of all inputs.
@@ -33,9 +36,9 @@ pub struct Verification {
 /// Whether the final fields of each input of a PSBT are valid. What all signatures share is hashed once. Refuses for want of memory
 /// alone.
 #[tactic(auto, unfolding(def_psbt_answer::specs::Verified::verify_report))]
-pub fn verify<'p>(alloc: Global, psbt: &'p Psbt<'p>) -> Result<Verification, AllocError>
-    ensures report { IfOk result (λ made. (inputs : List TheInput) → AreInputs psbt.entry.now inputs → made.report.items ≡ verify_report inputs) }
-    ensures status { IfOk result (λ made. (inputs : List TheInput) → AreInputs psbt.entry.now inputs → made.status ≡ verify_status inputs) }
+pub fn verify<'p>(alloc: Global, psbt: &'p Psbt<'p>) -> Result<Verdicts, AllocError>
+    ensures report { IfOk result (λ made. (inputs : List TheInput) → AreInputs Verified psbt.entry.now inputs → made.report.items ≡ verify_report inputs) }
+    ensures status { IfOk result (λ made. (inputs : List TheInput) → AreInputs Verified psbt.entry.now inputs → made.status ≡ verify_status inputs) }
 {
     let transaction = unsigned_transaction(psbt);
     let shared = shared_hashes(&transaction);
@@ -44,12 +47,13 @@ pub fn verify<'p>(alloc: Global, psbt: &'p Psbt<'p>) -> Result<Verification, All
     let mut are_valid = true;
     for number in 0..psbt.input_count() {
         let arena = Bump::new(alloc);
-        let input = Input::read(alloc, &arena, psbt, &transaction, number)?;
         let output = next_output(&mut outputs);
+        let verifying = verifying_with(Verification::Verified, &shared, output);
+        let input = Input::read(alloc, &arena, psbt, &transaction, number, verifying)?;
         let is_valid = push_input_verdict(alloc, &mut report, &input, &shared, output)?;
         are_valid = stay_valid(are_valid, is_valid);
     }
-    Ok(Verification {
+    Ok(Verdicts {
         status: status_of(are_valid),
         report,
     })
@@ -146,5 +150,5 @@ fn push_passed(
     ensures { (spend : Spend) → IsAsked spend check.now → OnOk result (report.new.items ≡ report.old.items ++ passed_line spend check.now.script pair.now) }
 {
     let judgement = check.judged(pair.key(), pair.sig());
-    push_passed_line(report, pair.key(), pair.sig(), judgement)
+    push_signature_line(report, pair.key(), pair.sig(), Some(judgement))
 }

@@ -2,8 +2,7 @@
 use Rattle.std.proofs.Common.{◌≡◌, ℕ, ◌&&◌, ◌<◌, ◌≤◌, nat_le, Bool, true, false, Some, None, refl}
 use Rattle.std.proofs.lemmas.Bool.{le-leb, lt-leb}
 use Rattle.def_tree.specs.Tree.{Tree}
-use Rattle.def_tree.specs.Size.{measure, depth}
-use Rattle.def_tree.specs.Range.{MOST_MEASURE, MOST_DEPTH}
+use Rattle.def_tree.specs.InRange.{measure, depth, MOST_MEASURE, MOST_DEPTH}
 use Rattle.ms_decode_laws.specs.Scaffolding.Reader.{fits}
 use Rattle.ms_reading.specs.Scaffolding.Parts.{fitting}
 

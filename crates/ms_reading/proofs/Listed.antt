@@ -85,8 +85,8 @@ module _ (P : Key → Type 0) where
       go false false false = tt
 
   begin_op_has : (fs : List Frame) (o : Op) → FramesHave fs → StateHas (begin_op fs o)
-  begin_op_has fs op.Csv g = (tt, g)
-  begin_op_has fs op.Cltv g = (tt, g)
+  begin_op_has fs op.CheckSequenceVerify g = (tt, g)
+  begin_op_has fs op.CheckLockTimeVerify g = (tt, g)
   begin_op_has fs op.Equal g = (tt, g)
   begin_op_has fs op.EqualVerify g = (tt, (tt, g))
   begin_op_has fs op.CheckSig g = (tt, (tt, g))

@@ -30,8 +30,8 @@ fn begin_op<'a, 's>(frames: &mut Vec<Frame<'a>>, op: Op) -> Result<Option<Want<'
     ensures { IfOk result (λ o. state_of o frames.new.items ≡ the_begin_op (frames_of frames.old.items) op) }
 {
     match op {
-        Op::Csv => Ok(Some(Want::Relative)),
-        Op::Cltv => Ok(Some(Want::Absolute)),
+        Op::CheckSequenceVerify => Ok(Some(Want::Relative)),
+        Op::CheckLockTimeVerify => Ok(Some(Want::Absolute)),
         Op::Equal => Ok(Some(Want::Target)),
         Op::CheckMultiSig => Ok(Some(Want::Count)),
         Op::EqualVerify => {

@@ -2,7 +2,7 @@
 ghost use Rattle.std.specs.Prelude.{◌≡◌, ◌^◌, ◌-◌, ◌<◌, ◌≤◌, min, reverse, IfOk};
 ghost use Rattle.def_tree.specs.Tree as tree;
 ghost use Rattle.def_tree.specs.Range.{AreWritable, count};
-ghost use Rattle.def_tree.specs.Size as size;
+ghost use Rattle.def_tree.specs.InRange as size_there;
 ghost use Rattle.ms_tree.specs.Shape.{shapes};
 ghost use Rattle.ms_work.specs.Scaffolding.InRange.{AreWritable-prop};
 
@@ -28,8 +28,8 @@ pub struct Children<'a> {
     pub depth: u64,
     /// The number of nodes and of keys of `multi`, up to `u64::MAX`.
     pub measure: u64,
-    ghost deep: { depth ≡ size.depth_of (shapes (reverse trees.items)) },
-    ghost large: { measure ≡ min (size.measure_of (shapes (reverse trees.items))) (2 ^ 64 - 1) },
+    ghost deep: { depth ≡ size_there.depth_of (shapes (reverse trees.items)) },
+    ghost large: { measure ≡ min (size_there.measure_of (shapes (reverse trees.items))) (2 ^ 64 - 1) },
     ghost writable: { AreWritable (shapes (reverse trees.items)) } by { AreWritable-prop (shapes (reverse trees.items)) },
 }
 

@@ -12,7 +12,7 @@ use crate::children::Numeral;
 use crate::part::Part;
 use bumpalo::Bump;
 use ms_script::num_decode;
-use ms_tree::{HashKind, HashVal, Key, Leaf, leaf};
+use ms_tree::{HashKind, HashValue, Key, Leaf, leaf};
 use std::alloc::{AllocError, Global};
 
 /// The least number of more than ten digits.
@@ -59,15 +59,15 @@ fn digest<const N: usize>(kind: HashKind, bytes: &[u8]) -> Option<[u8; N]>
     bytes.try_into().ok()
 }
 
-fn hash_value(kind: HashKind, bytes: &[u8]) -> Option<HashVal>
+fn hash_value(kind: HashKind, bytes: &[u8]) -> Option<HashValue>
     ensures value { hash_lock result ≡ hash_tree kind bytes.now }
     ensures writable { IfSome result (λ value. IsWritable (leaf_shape (Leaf.Hash value))) }
 {
     match kind {
-        HashKind::Sha256 => Some(HashVal::Sha256(digest(kind, bytes)?)),
-        HashKind::Hash256 => Some(HashVal::Hash256(digest(kind, bytes)?)),
-        HashKind::Ripemd160 => Some(HashVal::Ripemd160(digest(kind, bytes)?)),
-        HashKind::Hash160 => Some(HashVal::Hash160(digest(kind, bytes)?)),
+        HashKind::Sha256 => Some(HashValue::Sha256(digest(kind, bytes)?)),
+        HashKind::Hash256 => Some(HashValue::Hash256(digest(kind, bytes)?)),
+        HashKind::Ripemd160 => Some(HashValue::Ripemd160(digest(kind, bytes)?)),
+        HashKind::Hash160 => Some(HashValue::Hash160(digest(kind, bytes)?)),
     }
 }
 

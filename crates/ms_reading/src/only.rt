@@ -1,7 +1,7 @@
 //! The one tree that may be a Script's.
 ghost use Rattle.std.specs.Prelude.{◌≡◌, Ok, None, IfOk, IfSome};
 ghost use Rattle.def_decode.specs.Decoded.{IsReading};
-ghost use Rattle.def_tree.specs.Range.{IsInRange};
+ghost use Rattle.def_tree.specs.InRange.{IsInRange};
 ghost use Rattle.def_tree.specs.Tree.{Tree as TheTree};
 ghost use Rattle.ms_tree.specs.Shape.{shape};
 ghost use Rattle.ms_reading.specs.Candidates.{IsOnly};

@@ -1,8 +1,8 @@
 //! Trees beside their sizes, so that it costs one step to see whether a larger tree is in range.
 ghost use Rattle.std.specs.Prelude.{◌≡◌, ◌&&◌, nat_le, IfOk};
 ghost use Rattle.def_tree.specs.Tree as tree;
-ghost use Rattle.def_tree.specs.Size as size;
-ghost use Rattle.def_tree.specs.Range.{IsInRange};
+ghost use Rattle.def_tree.specs.InRange as size_there;
+ghost use Rattle.def_tree.specs.InRange.{IsInRange};
 ghost use Rattle.ms_tree.specs.Shape.{shape};
 ghost use Rattle.ms_work.specs.Scaffolding.InRange.{IsInRange-prop};
 
@@ -32,8 +32,8 @@ pub struct Part<'a> {
     pub depth: u64,
     /// The number of its nodes and of keys of `multi`.
     pub measure: u64,
-    ghost deep: { depth ≡ size.depth (shape tree) },
-    ghost large: { measure ≡ size.measure (shape tree) },
+    ghost deep: { depth ≡ size_there.depth (shape tree) },
+    ghost large: { measure ≡ size_there.measure (shape tree) },
     ghost in_range: { IsInRange (shape tree) } by { IsInRange-prop (shape tree) },
 }
 

@@ -13,7 +13,7 @@ ghost use Rattle.def_sane.specs.Unfit.{IsValidUnder};
 ghost use Rattle.def_limits.specs.declared.Limits.{Limits};
 ghost use Rattle.def_satisfaction.specs.Satisfaction.{Holds, Sat};
 ghost use Rattle.def_script.specs.Witness.{witness_text};
-ghost use Rattle.def_tree.specs.Range.{IsInRange};
+ghost use Rattle.def_tree.specs.InRange.{IsInRange};
 ghost use Rattle.ms_interp.specs.Answering.{given_by};
 ghost use Rattle.ms_replay.specs.Answering.{IsReportOf, IsAccepting};
 ghost use Rattle.ms_witness.specs.Replaying.{replay as the_replay, ran};

@@ -1,7 +1,7 @@
 //! What is printed of the instructions of a text's Script.
 ghost use Rattle.std.specs.Prelude.{◌≡◌, IfOk};
 ghost use Rattle.std.specs.String.{string_bytes};
-ghost use Rattle.def_tree.specs.Range.{IsInRange};
+ghost use Rattle.def_tree.specs.InRange.{IsInRange};
 ghost use Rattle.ms_tree.specs.Shape.{shape};
 ghost use Rattle.def_answer.specs.Asm.{asm_report as the_asm_report};
 

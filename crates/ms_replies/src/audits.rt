@@ -1,7 +1,7 @@
 //! What is answered to a run file for a text: whether its stack is accepted, and by which rows it satisfies the text.
 ghost use Rattle.std.specs.Prelude.{◌≡◌, ◌≤◌, length};
 ghost use Rattle.std.specs.String.{string_bytes};
-ghost use Rattle.def_tree.specs.Range.{IsInRange};
+ghost use Rattle.def_tree.specs.InRange.{IsInRange};
 ghost use Rattle.def_files.specs.RunFile.{MOST_ELEMENTS};
 ghost use Rattle.def_sane.specs.Unfit.{IsValid};
 ghost use Rattle.ms_answer_laws.specs.Laws.{walked, steps_found};

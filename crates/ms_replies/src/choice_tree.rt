@@ -1,6 +1,6 @@
 //! A tree of which a satisfaction is chosen.
 ghost use Rattle.std.specs.Prelude.{◌≡◌, None, IfOk, IfErr};
-ghost use Rattle.def_tree.specs.Range.{IsInRange};
+ghost use Rattle.def_tree.specs.InRange.{IsInRange};
 ghost use Rattle.ms_tree.specs.Shape.{shape};
 ghost use Rattle.ms_sane.specs.Misfits.{IsMisfit};
 ghost use Rattle.ms_sane.specs.Same.{IsSame};

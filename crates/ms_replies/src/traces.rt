@@ -1,7 +1,7 @@
 //! What is answered to a run file by the trace of its run.
 ghost use Rattle.std.specs.Prelude.{◌≤◌, length, IfOk};
 ghost use Rattle.std.specs.String.{string_bytes};
-ghost use Rattle.def_tree.specs.Range.{IsInRange};
+ghost use Rattle.def_tree.specs.InRange.{IsInRange};
 ghost use Rattle.def_files.specs.RunFile.{MOST_ELEMENTS};
 ghost use Rattle.def_answer.specs.Lines.{MOST_FILE};
 ghost use Rattle.def_answer.specs.Reply.{traced_reply, trace_reply, text_traced_reply, text_trace_reply};

@@ -1,7 +1,7 @@
 //! What is printed of a tree that passed.
 ghost use Rattle.std.specs.Prelude.{◌≡◌, ◌++◌, IfOk, OnOk};
 ghost use Rattle.std.specs.String.{string_bytes};
-ghost use Rattle.def_tree.specs.Range.{IsInRange};
+ghost use Rattle.def_tree.specs.InRange.{IsInRange};
 ghost use Rattle.ms_tree.specs.Shape.{shape};
 ghost use Rattle.def_answer.specs.Script.{script_report as the_script_report};
 ghost use Rattle.def_answer.specs.Check.{check_report as the_check_report, type_letters as the_type_letters, letter};
@@ -15,7 +15,7 @@ use ms_print::print_text;
 use ms_program::program_of;
 use ms_sane::SaneTree;
 use ms_tree::Tree;
-use ms_types::{Mall, Ty};
+use ms_types::{CorrectnessType, MalleabilityProperties};
 use std::alloc::{AllocError, Global};
 
 /// The Script of a tree (BIP 379) in lower-case digits: what `script` prints. `AllocError` comes only where memory is
@@ -42,7 +42,7 @@ pub fn check_report(alloc: Global, sane: &mut SaneTree<'_>) -> Result<String, Al
     push_line(
         &mut report,
         "type ",
-        &type_letters(alloc, sane.valid.ty, sane.mall)?,
+        &type_letters(alloc, sane.valid.ty, sane.malleability_of)?,
     )?;
     let script = script_bytes(alloc, &tree)?;
     let program = program_of(script.as_slice());
@@ -65,8 +65,12 @@ pub fn decode_report(alloc: Global, tree: &Tree<'_>) -> Result<String, AllocErro
 }
 
 /// The base type's letter, and those of the properties that hold.
-fn type_letters(alloc: Global, ty: Ty, mall: Mall) -> Result<String, AllocError>
-    ensures { IfOk result (λ letters. string_bytes letters ≡ the_type_letters ty mall) }
+fn type_letters(
+    alloc: Global,
+    ty: CorrectnessType,
+    malleability_of: MalleabilityProperties,
+) -> Result<String, AllocError>
+    ensures { IfOk result (λ letters. string_bytes letters ≡ the_type_letters ty malleability_of) }
 {
     let mut letters = String::from_str(alloc, base_letter(ty.base))?;
     push_letter(&mut letters, ty.z, "z")?;
@@ -74,9 +78,9 @@ fn type_letters(alloc: Global, ty: Ty, mall: Mall) -> Result<String, AllocError>
     push_letter(&mut letters, ty.n, "n")?;
     push_letter(&mut letters, ty.d, "d")?;
     push_letter(&mut letters, ty.u, "u")?;
-    push_letter(&mut letters, mall.s, "s")?;
-    push_letter(&mut letters, mall.f, "f")?;
-    push_letter(&mut letters, mall.e, "e")?;
+    push_letter(&mut letters, malleability_of.s, "s")?;
+    push_letter(&mut letters, malleability_of.f, "f")?;
+    push_letter(&mut letters, malleability_of.e, "e")?;
     Ok(letters)
 }
 

@@ -9,9 +9,9 @@ use Rattle.def_tree.specs.declared.Two.{Two}
 use Rattle.def_tree.specs.declared.Two.TheVariants as kind
 use Rattle.def_tree.specs.declared.Wrapper.TheVariants as wrapper
 use Rattle.def_tree.specs.Tree.{Tree, Trees, just_0, just_1, pk_k, older, after, hash, and_or, two, thresh, wrap, none, more}
-use Rattle.def_types.specs.Corr.{all_z, all_z_but_one}
+use Rattle.def_types.specs.Correctness.{all_z, all_z_but_one}
 use Rattle.def_types.specs.Typed.{type_of, types_of, IsTyped, AreTyped}
-use Rattle.def_types.proofs.Rows.{corr_rows}
+use Rattle.def_types.proofs.Rows.{correctness_rows}
 use Rattle.def_types.proofs.Facts.{all_true, typed-wrap_d}
 use Rattle.def_satisfaction.specs.StackSet.{StackSet, Never, Is, If, Both, Either}
 use Rattle.def_satisfaction.specs.Setting.{Setting}
@@ -89,7 +89,7 @@ nothing_takes w r = ap length r
 
 -- z, zero-arg
 mutual
-  unfolding corr_rows
+  unfolding correctness_rows
 
   pub takes_none : (s : Setting) (t : Tree) → (type_of t).z ≡ true → TakesRow 0 (row s t)
   takes_none s just_0 e = record { dsat = nothing_takes; sat = none_takes }
@@ -132,7 +132,7 @@ either_three a b c d f g e = elim (or_cases (a && b && c) (d && f && g) e) [ inl
 
 -- o, one-arg
 mutual
-  unfolding corr_rows
+  unfolding correctness_rows
 
   pub takes_one : (s : Setting) (t : Tree) → IsTyped t → (type_of t).o ≡ true → TakesRow 1 (row s t)
   takes_one s (pk_k key) typed e = record { dsat = is_takes EMPTY; sat = signature_takes s key }

@@ -10,7 +10,7 @@ use Rattle.def_tree.specs.declared.Two.TheVariants as kind
 use Rattle.def_tree.specs.declared.Wrapper.TheVariants as wrapper
 use Rattle.def_tree.specs.Tree.{Tree, Key, pk_k, pk_h, hash, two, multi, wrap}
 use Rattle.def_types.specs.Typed.{type_of, IsTyped}
-use Rattle.def_types.proofs.Rows.{corr_rows}
+use Rattle.def_types.proofs.Rows.{correctness_rows}
 use Rattle.def_types.proofs.Facts.{typed-multi, typed-wrap_j}
 use Rattle.def_satisfaction.specs.StackSet.{StackSet, Is, If, Both, Either}
 use Rattle.def_satisfaction.specs.Setting.{Setting}
@@ -89,7 +89,7 @@ empties_long (suc n) some w e = let l = ap length e in omega arith
 
 -- n, nonzero
 pub takes_item : (s : Setting) (t : Tree) → IsTyped t → (type_of t).n ≡ true → TopRow (row s t)
-unfolding corr_rows
+unfolding correctness_rows
 takes_item s (pk_k key) typed e = record { dsat = is_long EMPTY; sat = signature_top s key }
 takes_item s (pk_h key) typed e = record {
   dsat = λ w r. both_long (is_long r.0) w r.4;

@@ -9,7 +9,7 @@ use Rattle.def_tree.specs.declared.Wrapper.{Wrapper}
 use Rattle.def_tree.specs.declared.Wrapper.TheVariants as wrapper
 use Rattle.def_tree.specs.Tree.{Key, Tree, Trees, just_0, just_1, pk_k, pk_h, older, after, hash, and_or, two, thresh, multi, wrap, none, more}
 use Rattle.def_tree.specs.Range.{IsKey, IsWritable, AreWritable, count}
-use Rattle.def_tree.specs.Size.{measure, measure_of}
+use Rattle.def_tree.specs.InRange.{measure, measure_of}
 use Rattle.def_types.specs.Typed.{IsTyped, AreTyped}
 use Rattle.def_table.specs.Table.{Row, Table, row_of, rows_of}
 

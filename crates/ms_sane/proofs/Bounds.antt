@@ -2,8 +2,7 @@
 use Rattle.std.proofs.Common.{◌≡◌, ℕ, zero, suc, ◌+◌, ◌*◌, ◌^◌, ◌<◌, ◌≤◌, Option, Some, None, subst, sym, arith}
 use Rattle.std.specs.Prelude.{⊤}
 use Rattle.def_tree.specs.Tree.{Tree, Trees, multi, none, more}
-use Rattle.def_tree.specs.Range.{IsInRange}
-use Rattle.def_tree.specs.Size.{measure, measure_of}
+use Rattle.def_tree.specs.InRange.{IsInRange, measure, measure_of}
 use Rattle.def_types.specs.Typed.{IsTyped}
 use Rattle.def_limits.specs.Formal.{Takes}
 use Rattle.def_limits.specs.Scaffolding.Most.{both, either, most, most_sat, most_dsat, most_parts}

@@ -3,11 +3,11 @@ use Rattle.std.proofs.Common.{◌≡◌, ◌≤◌, [], ◌∷◌, false, true, 
 use Rattle.std.proofs.lemmas.Bool.{le-ltb}
 use Rattle.def_tree.specs.Tree.{Tree}
 use Rattle.def_types.specs.declared.Base.TheVariants.{B}
-use Rattle.def_types.specs.declared.Ty.{Ty}
-use Rattle.def_types.specs.Corr.{corr}
-use Rattle.def_types.specs.Malleable.{mall}
+use Rattle.def_types.specs.declared.CorrectnessType.{CorrectnessType}
+use Rattle.def_types.specs.Correctness.{correctness_of}
+use Rattle.def_types.specs.Malleable.{malleability_of}
 use Rattle.def_types.specs.Typed.{type_of}
-use Rattle.def_types.proofs.Typing.{corr_is_typed}
+use Rattle.def_types.proofs.Typing.{correctness_is_typed}
 use Rattle.def_limits.specs.declared.Limits.{Limits}
 use Rattle.def_sane.specs.declared.Rules.{Rules}
 use Rattle.def_limits.specs.Scaffolding.Most.{limits_of}
@@ -23,11 +23,11 @@ use Rattle.ms_sane.specs.Misfits.{IsMisfit}
 use Rattle.ms_sane.specs.declared.misfit.Misfit.{Misfit}
 use Rattle.ms_sane.specs.declared.misfit.Misfit.TheVariants as misfit
 
-pub valid_within : (rules : Rules) (t : Tree) (ty : Ty) (limits : Limits) → Ok ty ≡ corr t → ty.base ≡ B → limits ≡ limits_of t
+pub valid_within : (rules : Rules) (t : Tree) (ty : CorrectnessType) (limits : Limits) → Ok ty ≡ correctness_of t → ty.base ≡ B → limits ≡ limits_of t
     → limits.size ≤ size_limit rules → limits.ops ≤ MAX_OPS_PER_SCRIPT → are_too_many rules limits.items ≡ false → IsValidUnder rules t
 valid_within rules t ty limits typed base are size ops items =
-    let types = (corr_is_typed t ty).0 (sym typed) in
-    let top : (type_of t).base ≡ B = ap (λ (x : Ty). x.base) (sym types.1) ∙ base in
+    let types = (correctness_is_typed t ty).0 (sym typed) in
+    let top : (type_of t).base ≡ B = ap (λ (x : CorrectnessType). x.base) (sym types.1) ∙ base in
     (valid_means_under rules t).1 (
       types.0,
       top,
@@ -37,7 +37,7 @@ valid_within rules t ty limits typed base are size ops items =
     )
 
 -- of which a satisfaction has too many items
-pub unfit_items : (rules : Rules) (t : Tree) (ty : Ty) (limits : Limits) → Ok ty ≡ corr t → ty.base ≡ B → limits ≡ limits_of t
+pub unfit_items : (rules : Rules) (t : Tree) (ty : CorrectnessType) (limits : Limits) → Ok ty ≡ correctness_of t → ty.base ≡ B → limits ≡ limits_of t
     → limits.size ≤ size_limit rules → limits.ops ≤ MAX_OPS_PER_SCRIPT → are_too_many rules limits.items ≡ true
     → first_unfit_valid_under rules t ≡ Some (unfit.Items limits.items)
 unfit_items rules t ty limits typed base are size ops many =
@@ -48,7 +48,7 @@ unfit_items rules t ty limits typed base are size ops many =
 -- the first reason against a tree's being valid is the first against its being sane
 pub unfit_for_sane : (rules : Rules) (t : Tree) (why : Misfit) → IsMisfit (first_unfit_valid_under rules) t why → IsMisfit (first_unfit_under rules) t why
 unfit_for_sane rules t (misfit.Unfit unfit) h = (
-  subst (λ o. first_reason (o ∷ malleable (mall t) ∷ no_signature (mall t) ∷ mixed_locks (mix t) ∷ repeated (repeated_key t) ∷ []) ≡ Some unfit)
+  subst (λ o. first_reason (o ∷ malleable (malleability_of t) ∷ no_signature (malleability_of t) ∷ mixed_locks (mix t) ∷ repeated (repeated_key t) ∷ []) ≡ Some unfit)
       (sym h.0) refl,
   h.1,
 )

@@ -1,6 +1,6 @@
 //! What the formal satisfactions of a tree take at most, without memory.
 ghost use Rattle.std.specs.Prelude.{◌≤◌, length};
-ghost use Rattle.def_tree.specs.Range.{MOST_MEASURE};
+ghost use Rattle.def_tree.specs.InRange.{MOST_MEASURE};
 ghost use Rattle.def_tree.specs.Tree as tree;
 ghost use Rattle.ms_tree.specs.Shape.{shape, shapes, leaf_shape};
 ghost use Rattle.ms_sane.specs.Scaffolding.Most.{IsMost};

@@ -1,10 +1,9 @@
 //! Trees that passed: they are made only of trees that are valid, or sane.
 ghost use Rattle.std.specs.Prelude.{◌≡◌, ◌*◌, ◌≤◌, Ok, Some, IfOk, IfErr, vec_len};
 ghost use Rattle.std.proofs.Props.{props};
-ghost use Rattle.def_tree.specs.Range.{IsInRange};
-ghost use Rattle.def_tree.specs.Size.{measure};
-ghost use Rattle.def_types.specs.Corr.{corr};
-ghost use Rattle.def_types.specs.Malleable.{mall as the_mall};
+ghost use Rattle.def_tree.specs.InRange.{IsInRange, measure};
+ghost use Rattle.def_types.specs.Correctness.{correctness_of};
+ghost use Rattle.def_types.specs.Malleable.{malleability_of as the_malleability_of};
 ghost use Rattle.def_sane.specs.declared.Rules.TheVariants.{Consensus};
 ghost use Rattle.def_sane.specs.TheLimits.{the_limits};
 ghost use Rattle.def_sane.specs.Unfit.{first_unfit_under, first_unfit_valid_under, IsValidUnder, IsSaneUnder};
@@ -20,7 +19,7 @@ use def_sane::{Limits, Rules, Unfit};
 use ms_bytes::MAX_OPS_PER_SCRIPT;
 use ms_mixing::{mix, repeated_key};
 use ms_tree::Tree;
-use ms_types::{Mall, Ty, mall};
+use ms_types::{CorrectnessType, MalleabilityProperties, malleability_of};
 use ms_work::Work;
 use std::alloc::Global;
 
@@ -33,7 +32,7 @@ pub struct ValidTree<'a> {
     /// The rules by which it is valid.
     pub rules: Rules,
     /// Its correctness type.
-    pub ty: Ty,
+    pub ty: CorrectnessType,
     /// Its limits.
     pub limits: Limits,
     /// Working room for it.
@@ -41,7 +40,7 @@ pub struct ValidTree<'a> {
     pub ghost in_range: { IsInRange (shape tree) } by { IsInRange-prop (shape tree) },
     pub ghost valid: { IsValidUnder rules (shape tree) } by { Prim.hlevel props },
     pub ghost valid_by_consensus: { IsValidUnder Consensus (shape tree) } by { Prim.hlevel props },
-    pub ghost typed: { corr (shape tree) ≡ Ok ty } by { Prim.hlevel props },
+    pub ghost typed: { correctness_of (shape tree) ≡ Ok ty } by { Prim.hlevel props },
     pub ghost limited: { limits ≡ the_limits (shape tree) },
     pub ghost room: { 4 * measure (shape tree) ≤ vec_len work.slots },
 }
@@ -52,10 +51,10 @@ pub struct SaneTree<'a> {
     /// The tree, as a valid one.
     pub valid: ValidTree<'a>,
     /// Its malleability properties.
-    pub mall: Mall,
+    pub malleability_of: MalleabilityProperties,
     pub ghost sane: { IsSaneUnder valid.rules (shape valid.tree) } by { Prim.hlevel props },
     pub ghost sane_by_consensus: { IsSaneUnder Consensus (shape valid.tree) } by { Prim.hlevel props },
-    pub ghost mall_typed: { the_mall (shape valid.tree) ≡ Ok mall } by { Prim.hlevel props },
+    pub ghost malleability_typed: { the_malleability_of (shape valid.tree) ≡ Ok malleability_of } by { Prim.hlevel props },
 }
 
 impl<'a> ValidTree<'a> {
@@ -116,11 +115,11 @@ impl<'a> SaneTree<'a> {
         ensures place { IfErr result (IsOfTree (shape valid.entry.tree)) }
     {
         let tree = valid.tree;
-        let mall = match mall(&tree) {
-            Ok(mall) => mall,
+        let malleability_of = match malleability_of(&tree) {
+            Ok(malleability_of) => malleability_of,
             Err(at) => return Err(Unfit::Malleable(at)),
         };
-        if !mall.s {
+        if !malleability_of.s {
             return Err(Unfit::NoSignature);
         }
         if let Some(node) = mix(&tree) {
@@ -129,6 +128,9 @@ impl<'a> SaneTree<'a> {
         if let Some(node) = repeated_key(&tree, &mut valid.work.slots) {
             return Err(Unfit::RepeatedKey(node));
         }
-        Ok(SaneTree { valid, mall })
+        Ok(SaneTree {
+            valid,
+            malleability_of,
+        })
     }
 }

@@ -1,8 +1,7 @@
 //! The limits of a miniscript (BIP 379, resource limits).
 ghost use Rattle.std.specs.Prelude.{◌≡◌, ◌*◌, ◌≤◌, IsOk, vec_len};
-ghost use Rattle.def_tree.specs.Range.{IsInRange};
-ghost use Rattle.def_tree.specs.Size.{measure};
-ghost use Rattle.def_types.specs.Corr.{corr};
+ghost use Rattle.def_tree.specs.InRange.{IsInRange, measure};
+ghost use Rattle.def_types.specs.Correctness.{correctness_of};
 ghost use Rattle.def_limits.specs.Limits.{AreLimits};
 ghost use Rattle.def_limits.specs.Scaffolding.Most.{number_of, most_sat, limits_of};
 ghost use Rattle.ms_tree.specs.Shape.{shape};
@@ -21,7 +20,7 @@ use ms_work::Work;
 /// all formal satisfactions (BIP 379, resource limits). Items and weight are 0 where there is none.
 pub fn limits(tree: &Tree<'_>, work: &mut Work) -> Limits
     requires in_range { IsInRange (shape tree.now) }
-    requires typed { IsOk (corr (shape tree.now)) }
+    requires typed { IsOk (correctness_of (shape tree.now)) }
     requires room { 4 * measure (shape tree.now) ≤ vec_len work.old.slots }
     ensures limits { AreLimits (shape tree.now) result }
     ensures room { vec_len work.new.slots ≡ vec_len work.old.slots }
@@ -33,7 +32,7 @@ pub fn limits(tree: &Tree<'_>, work: &mut Work) -> Limits
 pub fn limits_from(extent: Extent, tree: &Tree<'_>, work: &mut Work) -> Limits
     requires extent { IsExtent (shape tree.now) extent }
     requires in_range { IsInRange (shape tree.now) }
-    requires typed { IsOk (corr (shape tree.now)) }
+    requires typed { IsOk (correctness_of (shape tree.now)) }
     requires room { 4 * measure (shape tree.now) ≤ vec_len work.old.slots }
     ensures limits { result ≡ limits_of (shape tree.now) }
     ensures room { vec_len work.new.slots ≡ vec_len work.old.slots }
@@ -51,7 +50,7 @@ pub fn limits_from(extent: Extent, tree: &Tree<'_>, work: &mut Work) -> Limits
 /// none.
 fn most_taken(tree: &Tree<'_>, work: &mut Work) -> Takes
     requires in_range { IsInRange (shape tree.now) }
-    requires typed { IsOk (corr (shape tree.now)) }
+    requires typed { IsOk (correctness_of (shape tree.now)) }
     requires room { 4 * measure (shape tree.now) ≤ vec_len work.old.slots }
     ensures items { result.items ≡ number_of (λ t. t.items) (most_sat (shape tree.now)) }
     ensures weight { result.weight ≡ number_of (λ t. t.weight) (most_sat (shape tree.now)) }

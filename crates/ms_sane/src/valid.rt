@@ -1,6 +1,6 @@
 //! What is known of a tree before its satisfactions are counted, and its limits under given rules.
 ghost use Rattle.std.specs.Prelude.{◌≡◌, Some, IfOk, IfErr};
-ghost use Rattle.def_tree.specs.Range.{IsInRange};
+ghost use Rattle.def_tree.specs.InRange.{IsInRange};
 ghost use Rattle.def_sane.specs.Unfit.{first_unfit_valid_under, size_limit as the_size_limit, are_too_many as the_too_many};
 ghost use Rattle.ms_tree.specs.Shape.{shape};
 ghost use Rattle.ms_sane.specs.Place.{IsOfTree};
@@ -10,7 +10,7 @@ use def_sane::{Rules, Unfit};
 use ms_bytes::MAX_SCRIPT_SIZE;
 use ms_extent::{Extent, script_extent};
 use ms_tree::Tree;
-use ms_types::{Base, Ty, corr};
+use ms_types::{Base, CorrectnessType, correctness_of};
 
 /// The most bytes of a Script that is relayed (Bitcoin Core, `MAX_STANDARD_P2WSH_SCRIPT_SIZE`).
 const MOST_SIZE: u64 = 3_600;
@@ -42,7 +42,7 @@ pub fn are_too_many(items: u64, rules: Rules) -> bool
 #[derive(Clone, Copy)]
 pub struct Short {
     /// The correctness type.
-    pub ty: Ty,
+    pub ty: CorrectnessType,
     /// The length and the opcodes of the Script.
     pub extent: Extent,
 }
@@ -57,7 +57,7 @@ pub fn find_short(tree: &Tree<'_>, rules: Rules) -> Result<Short, Unfit>
     ensures unfit { IfErr result (λ unfit. first_unfit_valid_under rules (shape tree.now) ≡ Some unfit) }
     ensures place { IfErr result (IsOfTree (shape tree.now)) }
 {
-    let ty = match corr(tree) {
+    let ty = match correctness_of(tree) {
         Ok(ty) => ty,
         Err(at) => return Err(Unfit::Rule(at)),
     };

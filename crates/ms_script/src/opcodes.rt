@@ -31,8 +31,8 @@ macro_rules! opcode_rows {
             [CheckSigVerify 0xad]
             [CheckMultiSig 0xae]
             [CheckMultiSigVerify 0xaf]
-            [Cltv 0xb1]
-            [Csv 0xb2]
+            [CheckLockTimeVerify 0xb1]
+            [CheckSequenceVerify 0xb2]
         }
     };
 }

@@ -1,9 +1,10 @@
 -- What is promised of the stack of a Ready input, and of an Unsatisfied one.
-use Rattle.std.proofs.Common.{◌≡◌, ℕ, ◌≤◌, List, length, Option, Some, sym, ap, subst, ◌∙◌, arith}
+use Rattle.std.proofs.Common.{◌≡◌, ℕ, ◌≤◌, Bool, true, List, length, Option, Some, Ok, inl, inr, if◌then◌else◌, sym, ap, subst, ◌∙◌, arith}
+use Rattle.std.proofs.lemmas.Bool.{false≢true}
 use Rattle.std.proofs.lemmas.List.Elements.{All-weaker}
 use Rattle.def_script.specs.Bytes.{Bytes}
 use Rattle.def_script.specs.Signature.{MAX_SIGNATURE_SIZE}
-use Rattle.def_script.specs.Witness.{witness_text, weight}
+use Rattle.def_script.specs.Witness.{items_text, witness_text, weight}
 use Rattle.def_machine.specs.Stacks.{Checker}
 use Rattle.def_machine.specs.Machine.{Given}
 use Rattle.def_machine.specs.Program.{program_of}
@@ -29,18 +30,22 @@ use Rattle.ms_witness.specs.Reading.{FitsWitness}
 use Rattle.ms_witness.specs.Replaying.{replay, ran}
 use Rattle.ms_witness.proofs.Witnesses.{witness_is_replayed}
 use Rattle.def_spend.specs.declared.State.TheVariants as state
-use Rattle.def_spend.specs.Hashes.{script_or_none}
-use Rattle.def_spend.specs.Input.{assets_of}
-use Rattle.def_spend.specs.Kinds.{IsGuardedBy}
-use Rattle.def_spend.specs.Reading.{Input}
+use Rattle.def_decode.specs.Decoded.{IsDecoded}
+use Rattle.def_spend.specs.Fields.{WITNESS_SCRIPT, field, keys_in}
+use Rattle.def_spend.specs.Hashes.{script_or_none, script_in}
+use Rattle.def_spend.specs.Good.{assets_of}
+use Rattle.def_spend.specs.Kinds.{IsGuardedBy, kind_of, ends_in_script}
+use Rattle.def_spend.specs.Reading.{Input, key_hash_script}
 use Rattle.def_spend.specs.States.{stack_of}
 use Rattle.def_spend.specs.Finalized.{script_sig_of}
 use Rattle.ms_given_laws.specs.Given.{EachIsSound}
 use Rattle.ms_spend_laws.specs.Tried.{IsTried, OfEachIn}
-use Rattle.ms_spend_laws.specs.Ready.{ReadyIsCanonical, IsWitness, ReadyHasWitness, ReplaysAccepted, IsAcceptedByAll, ReadyIsAccepted, ReadyIsUnchangeable, ReadyIsTight, ReadyIsLightest}
+use Rattle.ms_spend_laws.specs.Ready.{spent_output, ReadyIsCanonical, IsScriptWitness, IsKeyWitness, IsWitness, ReadyHasWitness, ReplaysAccepted, IsAcceptedByAll, ReadyIsAccepted, ReadyIsUnchangeable, ReadyIsTight, ReadyIsLightest}
 use Rattle.ms_spend_laws.specs.Unsatisfied.{UnsatisfiedHasNothing}
 use Rattle.ms_spend_laws.proofs.Inputs.{IsGiven, held}
-use Rattle.ms_spend_laws.proofs.States.{script_is, ready_some, unsatisfied_none, writes, sane_for_all, stack_is, of_each_in}
+use Rattle.ms_spend_laws.proofs.Counted.{counted_among}
+use Rattle.ms_spend_laws.proofs.KeyHash.{key_hash_is_read_as_pkh, pkh_stack}
+use Rattle.ms_spend_laws.proofs.States.{IsScriptFor, IsKeyHashFor, SpendTells, script_is, ready_some, unsatisfied_none, writes, sane_for_all, stack_is, of_each_in}
 
 -- an input whose stack is chosen
 pub record IsChosen (input : Input) (tree : Tree) (script : Bytes) : Type 0 where
@@ -49,7 +54,7 @@ pub record IsChosen (input : Input) (tree : Tree) (script : Bytes) : Type 0 wher
   pub chosen : strict tree (assets_of input.spend) ≡ Some (stack_of input)
 
 -- what holds of these holds of each that is Ready
-of_each_ready : EachIsSound → (Holds : Input → Tree → Type 0) → ((input : Input) (tree : Tree) (script : Bytes) → IsChosen input tree script → Holds input tree) → OfEachIn state.Ready Holds
+pub of_each_ready : EachIsSound → (Holds : Input → Tree → Type 0) → ((input : Input) (tree : Tree) (script : Bytes) → IsChosen input tree script → Holds input tree) → OfEachIn state.Ready Holds
 of_each_ready law Holds holds = of_each_in law state.Ready tt Holds (λ input tree script given tried e.
     let some = ready_some (strict tree (assets_of input.spend)) e in
     let stack = stack_is input tree script some.0 tried some.1 in
@@ -63,23 +68,58 @@ ready_is_canonical law = of_each_ready law _ canonical
 
 -- ---- the witness
 
+-- the witness, by whether it ends in a script
+abbrev witness_of_kind : Bool → (stack : List Bytes) → (script : Bytes) → Bytes
+witness_of_kind ends stack script = if ends then witness_text stack script else items_text stack
+
 same_script : (input : Input) (tree : Tree) (script : Bytes) → IsTried input tree script → script ≡ script_of tree
 same_script input tree script t = sym t.decoded.reading.same
 
-pub witness_is : (input : Input) (tree : Tree) (script : Bytes) → IsTried input tree script → IsWitness input tree
-witness_is input tree script t =
+-- of P2WSH it is the one that ends in the script
+script_witness : (input : Input) (tree : Tree) (script : Bytes) → IsTried input tree script
+    → IsScriptFor (spent_output input.spend) (field WITNESS_SCRIPT input.spend.fields) (kind_of input.spend) (script_sig_of input.spend) script → IsScriptWitness input tree
+script_witness input tree script t found =
     let same = same_script input tree script t in
-    let found = script_is input.spend script t.spends in
     record {
+      kind = found.kind;
       script = found.held ∙ ap Some same;
       output = found.output;
       spent = found.spent;
       guarded = subst (λ (s : Bytes). IsGuardedBy (program_of s) found.output.script (script_sig_of input.spend)) same found.guarded;
-      witness = ap (λ r. witness_text (stack_of input) (script_or_none r)) t.spends ∙ ap (witness_text (stack_of input)) same;
+      witness = ap (λ b. witness_of_kind b (stack_of input) (script_in input.spend)) found.kind
+          ∙ ap (λ r. witness_text (stack_of input) (script_or_none r)) t.spends ∙ ap (witness_text (stack_of input)) same;
     }
 
+-- of P2WPKH the signature and the key
+key_witness : (input : Input) (tree : Tree) (script : Bytes) → IsChosen input tree script
+    → IsKeyHashFor (spent_output input.spend) (kind_of input.spend) (script_sig_of input.spend) script → IsKeyWitness input tree
+key_witness input tree script c found =
+    let decoded : IsDecoded (keys_in input.spend.fields) (key_hash_script found.program) tree =
+    subst (λ (s : Bytes). IsDecoded (keys_in input.spend.fields) s tree) found.is_script c.tried.decoded in
+    let read = key_hash_is_read_as_pkh (keys_in input.spend.fields) found.program tree found.key_hash decoded in
+    let sat = subst (λ (t : Tree). Sat t (assets_of input.spend) (stack_of input)) read.miniscript (canonical input tree script c) in
+    let is = pkh_stack read.key (assets_of input.spend) (stack_of input) sat in
+    record {
+      key = read.key;
+      sig = is.sig;
+      held = counted_among input.spend.verification input.spend (read.key, is.sig) is.held;
+      counts = is.held;
+      miniscript = read.miniscript;
+      output = found.output;
+      spent = found.spent;
+      guarded = subst (λ (p : Bytes). IsGuardedBy p found.output.script (script_sig_of input.spend)) read.is_program found.guarded;
+      witness = ap (λ b. witness_of_kind b (stack_of input) (script_in input.spend)) found.kind ∙ ap items_text is.is_stack;
+    }
+
+pub witness_is : (input : Input) (tree : Tree) (script : Bytes) → IsChosen input tree script → IsWitness input tree
+witness_is input tree script c = go (script_is input.spend script c.tried.spends)
+  where
+    go : SpendTells input.spend (Ok script) → IsWitness input tree
+    go (inl found) = inl (script_witness input tree script c.tried found)
+    go (inr found) = inr (key_witness input tree script c found)
+
 pub ready_has_witness : EachIsSound → ReadyHasWitness
-ready_has_witness law = of_each_ready law _ (λ input tree script c. witness_is input tree script c.tried)
+ready_has_witness law = of_each_ready law _ witness_is
 
 -- ---- it is accepted
 
@@ -99,24 +139,30 @@ fits_witness input tree script c =
       last = omega (arith, size, most.0);
     }
 
-within : (input : Input) (tree : Tree) (script : Bytes) → IsChosen input tree script → (limits : Limits) (checker : Checker) → AreLimits tree limits → Holds checker (assets_of input.spend)
+pub within : (input : Input) (tree : Tree) (script : Bytes) → IsChosen input tree script → (limits : Limits) (checker : Checker) → AreLimits tree limits → Holds checker (assets_of input.spend)
     → IsAcceptedWithin tree limits (given_with (assets_of input.spend) checker) (stack_of input)
 within input tree script c limits checker are holds =
     canonical_is_accepted tree limits (assets_of input.spend) checker (stack_of input) (writes input tree script c.tried) (valid input tree script c.tried) are
     (held input c.given) holds (canonical input tree script c)
 
-replays : (input : Input) (tree : Tree) (script : Bytes) → IsChosen input tree script → (checker : Checker) → Holds checker (assets_of input.spend)
-    → ReplaysAccepted input tree (given_with (assets_of input.spend) checker)
-replays input tree script c checker holds =
-    let given : Given = given_with (assets_of input.spend) checker in
-    let w = witness_is input tree script c.tried in
-    let a = within input tree script c (limits_of tree) checker (limits_are_computed tree) holds in (
-      a.ops,
-      a.peak,
-      a.checks,
-      ap (replay given (program_of (script_of tree))) w.witness
-          ∙ witness_is_replayed given (stack_of input) (script_of tree) (fits_witness input tree script c) ∙ ap ran a.run,
-    )
+pub replays : (input : Input) (tree : Tree) (script : Bytes) → IsChosen input tree script → ends_in_script (kind_of input.spend) ≡ true
+    → (checker : Checker) → Holds checker (assets_of input.spend) → ReplaysAccepted input tree (given_with (assets_of input.spend) checker)
+replays input tree script c ends checker holds = go (script_is input.spend script c.tried.spends)
+  where
+    given : Given
+    given = given_with (assets_of input.spend) checker
+
+    go : SpendTells input.spend (Ok script) → ReplaysAccepted input tree given
+    go (inr found) = absurd (false≢true (sym found.kind ∙ ends))
+    go (inl found) =
+        let w = script_witness input tree script c.tried found in
+        let a = within input tree script c (limits_of tree) checker (limits_are_computed tree) holds in (
+          a.ops,
+          a.peak,
+          a.checks,
+          ap (replay given (program_of (script_of tree))) w.witness
+              ∙ witness_is_replayed given (stack_of input) (script_of tree) (fits_witness input tree script c) ∙ ap ran a.run,
+        )
 
 pub ready_is_accepted : EachIsSound → ReadyIsAccepted
 ready_is_accepted law = of_each_ready law IsAcceptedByAll (λ input tree script c. record { replayed = replays input tree script c; within = within input tree script c })

@@ -3,7 +3,7 @@ use Rattle.std.proofs.Common.{List, [], ◌∷◌, map, sym, subst}
 use Rattle.std.specs.List.{AllByRecursion}
 use Rattle.std.proofs.lemmas.List.Elements.{All-from_recursion, recursion_from_All}
 use Rattle.def_assets.specs.Assets.{AreAssets}
-use Rattle.def_spend.specs.Input.{assets_of}
+use Rattle.def_spend.specs.Good.{assets_of}
 use Rattle.def_spend.specs.Reading.{Input, HasReading}
 use Rattle.ms_given_laws.specs.Given.{OfEachInput, EachIsSound}
 use Rattle.ms_given_laws.proofs.Held.{assets_are}
@@ -27,7 +27,7 @@ each_given Holds holds (input ∷ inputs) places reads =
 
 -- what holds of such inputs holds of each
 pub of_each : EachIsSound → (Holds : Input → Type 0) → ((input : Input) → IsGiven input → Holds input) → OfEachInput Holds
-of_each law Holds holds source psbt fits e inputs are =
-    let all = places psbt (law source psbt fits e) in
+of_each law Holds holds source psbt fits e verification inputs are =
+    let all = places verification psbt (law source psbt fits e) in
     All-from_recursion Holds inputs
     (each_given Holds holds inputs (subst (AllByRecursion HasPlace) (sym are.spends) all) (recursion_from_All HasReading inputs are.read))

@@ -1,8 +1,11 @@
 pub mod Inputs
 pub mod States
-pub mod Chosen
 pub mod KeyCount
 pub mod Mixed
+pub mod Counted
 pub mod Reread
+pub mod KeyHash
+pub mod Chosen
 pub mod Planning
 pub mod Adding
+pub mod Verified

@@ -1,6 +1,6 @@
 -- Maps that consist of some pairs and of others.
-use Rattle.std.proofs.Common.{◌≡◌, Bool, false, cond, List, [], ◌∷◌, map, filter, find, Contains, Some, inl, inr, ◌⊎◌, refl, sym, ap, subst, ◌∙◌, arith}
-use Rattle.std.proofs.lemmas.Bool.{cases_Bool, or_parts, or_from}
+use Rattle.std.proofs.Common.{◌≡◌, Bool, true, false, cond, List, [], ◌∷◌, map, filter, find, Contains, Some, inl, inr, ◌⊎◌, refl, sym, ap, subst, ◌∙◌, arith}
+use Rattle.std.proofs.lemmas.Bool.{cases_Bool, or_parts, or_from, false≢true}
 use Rattle.std.specs.List.{AllByRecursion, list_any}
 use Rattle.std.proofs.lemmas.List.Elements.{Contains-append_right, Contains-append_cases, Contains-push_cases}
 use Rattle.def_psbt.specs.Map.{Pair, Map}
@@ -32,7 +32,7 @@ kept_among test (pair ∷ later) some others (inr h) none =
 
 -- ---- what is made of those that pass
 
-no_element : {B : Type 0} (x : B) → Contains [] x → ⊥
+pub no_element : {B : Type 0} (x : B) → Contains [] x → ⊥
 no_element {B} x i = let low = i.1 in omega (arith, low)
 
 pub first_or_rest : {B : Type 0} (x first : B) (rest : List B) → Contains (first ∷ rest) x → (first ≡ x) ⊎ Contains rest x
@@ -84,3 +84,76 @@ none_among {B} bad test make (pair ∷ later) some others (inl h) p q =
 none_among {B} bad test make (pair ∷ later) some others (inr h) p q =
     one_before bad test make pair h.0 later (λ q. none_among bad test make later some h.0 h.2 p q)
     (subst (λ l. list_any bad (map make (filter test l)) ≡ false) h.1 q)
+
+-- and of both it is of one
+pub made_of : {B : Type 0} (test : Pair → Bool) (make : Pair → B) (later some others : Map) → ConsistsOf later some others → (x : B)
+    → Contains (map make (filter test later)) x → Contains (map make (filter test some)) x ⊎ Contains (map make (filter test others)) x
+made_of {B} test make [] some others h x i = absurd (no_element x i)
+made_of {B} test make (pair ∷ later) some others (inl h) x i =
+    subst (λ l. Contains (map make (filter test l)) x ⊎ Contains (map make (filter test others)) x) (sym h.1)
+    (elim (cases_Bool (test pair)) [
+      | inl is ↦ rw is (elim (first_or_rest x (make pair) (map make (filter test later)) (rw is at i)) [
+        | inl same ↦ inl (0, omega arith, same)
+        | inr j ↦ elim (made_of test make later h.0 others h.2 x j) [
+          | inl k ↦ inl (Contains-append_right (make pair ∷ []) (map make (filter test h.0)) x k)
+          | inr k ↦ inr k
+        ]
+      ])
+      | inr other ↦ rw other (made_of test make later h.0 others h.2 x (rw other at i))
+    ])
+made_of {B} test make (pair ∷ later) some others (inr h) x i =
+    subst (λ l. Contains (map make (filter test some)) x ⊎ Contains (map make (filter test l)) x) (sym h.1)
+    (elim (cases_Bool (test pair)) [
+      | inl is ↦ rw is (elim (first_or_rest x (make pair) (map make (filter test later)) (rw is at i)) [
+        | inl same ↦ inr (0, omega arith, same)
+        | inr j ↦ elim (made_of test make later some h.0 h.2 x j) [
+          | inl k ↦ inl k
+          | inr k ↦ inr (Contains-append_right (make pair ∷ []) (map make (filter test h.0)) x k)
+        ]
+      ])
+      | inr other ↦ rw other (made_of test make later some h.0 h.2 x (rw other at i))
+    ])
+
+-- what passes none of both passes none of the first ones
+none_behind : {B : Type 0} (bad : B → Bool) (test : Pair → Bool) (make : Pair → B) (pair : Pair) (later : Map)
+    → list_any bad (map make (filter test (pair ∷ later))) ≡ false → list_any bad (map make (filter test later)) ≡ false
+none_behind {B} bad test make pair later p = elim (cases_Bool (test pair)) [
+  | inl is ↦ (or_parts (bad (make pair)) (list_any bad (map make (filter test later))) (rw is at p)).1
+  | inr other ↦ rw other at p
+]
+
+pub none_of_some : {B : Type 0} (bad : B → Bool) (test : Pair → Bool) (make : Pair → B) (later some others : Map) → ConsistsOf later some others
+    → list_any bad (map make (filter test later)) ≡ false → list_any bad (map make (filter test some)) ≡ false
+none_of_some {B} bad test make [] some others h p = subst (λ l. list_any bad (map make (filter test l)) ≡ false) (sym h.0) refl
+none_of_some {B} bad test make (pair ∷ later) some others (inl h) p =
+    subst (λ l. list_any bad (map make (filter test l)) ≡ false) (sym h.1)
+    (one_before bad test make pair later h.0 (none_of_some bad test make later h.0 others h.2) p)
+none_of_some {B} bad test make (pair ∷ later) some others (inr h) p =
+    none_of_some bad test make later some h.0 h.2 (none_behind bad test make pair later p)
+
+-- ---- what passes a test
+
+-- an element that is left has passed
+pub passed_is : {A : Type 0} (test : A → Bool) (xs : List A) (x : A) → Contains (filter test xs) x → Contains xs x × (test x ≡ true)
+passed_is {A} test [] x i = absurd (no_element x i)
+passed_is {A} test (y ∷ xs) x i = elim (cases_Bool (test y)) [
+  | inl is ↦ elim (first_or_rest x y (filter test xs) (rw is at i)) [
+    | inl same ↦ ((0, omega arith, same), subst (λ z. test z ≡ true) same is)
+    | inr j ↦ (let r = passed_is test xs x j in (Contains-append_right (y ∷ []) xs x r.0, r.1))
+  ]
+  | inr other ↦ (let r = passed_is test xs x (rw other at i) in (Contains-append_right (y ∷ []) xs x r.0, r.1))
+]
+
+-- and one that passes is left
+pub is_passed : {A : Type 0} (test : A → Bool) (xs : List A) (x : A) → Contains xs x → test x ≡ true → Contains (filter test xs) x
+is_passed {A} test [] x i p = absurd (no_element x i)
+is_passed {A} test (y ∷ xs) x i p = elim (cases_Bool (test y)) [
+  | inl is ↦ rw is (elim (first_or_rest x y xs i) [
+    | inl same ↦ (0, omega arith, same)
+    | inr j ↦ Contains-append_right (y ∷ []) (filter test xs) x (is_passed test xs x j p)
+  ])
+  | inr other ↦ elim (first_or_rest x y xs i) [
+    | inl same ↦ absurd (false≢true (sym other ∙ ap test same ∙ p))
+    | inr j ↦ rw other (is_passed test xs x j p)
+  ]
+]

@@ -99,7 +99,7 @@ is_input tree assets writable sane are = record { writable = writable; sane = sa
 
 -- ---- where there is no plan
 
-reversed_some : (o : Option Stack) (stack : List Bytes) → option_map reverse o ≡ Some stack → (w : Stack) × (o ≡ Some w)
+pub reversed_some : (o : Option Stack) (stack : List Bytes) → option_map reverse o ≡ Some stack → (w : Stack) × (o ≡ Some w)
 reversed_some None stack e = absurd (none-some stack e)
 reversed_some (Some w) stack e = (w, refl)
 

@@ -1,7 +1,7 @@
 -- An input with further signatures in its map: what it spends and what it is read as stay.
-use Rattle.std.proofs.Common.{◌≡◌, ℕ, ◌==◌, ◌&&◌, ◌||◌, Bool, true, false, cond, List, [], ◌∷◌, ◌++◌, length, map, filter, find, Contains, Some, Result, Err, inl, inr, refl, sym, ap, subst, ◌∙◌, arith}
+use Rattle.std.proofs.Common.{◌≡◌, ℕ, ◌==◌, ◌&&◌, ◌||◌, Bool, true, false, cond, List, [], ◌∷◌, ◌++◌, length, map, filter, find, Contains, Option, Some, Result, Err, inl, inr, refl, sym, ap, subst, ◌∙◌, arith}
 use Rattle.std.specs.List.{AllByRecursion}
-use Rattle.std.specs.Option.{option_map, option_and_then}
+use Rattle.std.specs.Option.{option_map, option_and_then, unwrap_or}
 use Rattle.std.specs.Str.{bytes_eq}
 use Rattle.std.proofs.lemmas.Bool.{and_parts, eqb-true, false≢true, cases_Bool}
 use Rattle.std.proofs.lemmas.List.{map-append}
@@ -17,13 +17,19 @@ use Rattle.def_psbt.specs.Transaction.{Outpoint}
 use Rattle.def_psbt.specs.Map.{Pair, Map, type_of, data_of}
 use Rattle.def_psbt.specs.TransactionReading.{network_transaction_of}
 use Rattle.def_psbt.specs.Forms.{output_of}
-use Rattle.def_spend.specs.Fields.{NON_WITNESS_UTXO, WITNESS_UTXO, PARTIAL_SIG, SIGHASH_TYPE, REDEEM_SCRIPT, WITNESS_SCRIPT, FINAL_SCRIPTSIG, FINAL_SCRIPTWITNESS, RIPEMD160, HASH256, has_type, is_between, field, is_signed, has_key, keys_in, is_preimage_pair, preimages_in, asked, asked_type}
-use Rattle.def_spend.specs.Utxo.{utxo_by, utxo_of}
+use Rattle.def_spend.specs.Fields.{NON_WITNESS_UTXO, WITNESS_UTXO, PARTIAL_SIG, SIGHASH_TYPE, REDEEM_SCRIPT, WITNESS_SCRIPT, FINAL_SCRIPTSIG, FINAL_SCRIPTWITNESS, RIPEMD160, HASH256, has_type, is_between, field, is_signed, has_key, keys_in, is_preimage_pair, preimages_in, last_byte, asked, asked_type}
+use Rattle.def_spend.specs.Amount.{known_amount}
+use Rattle.def_spend.specs.Utxo.{utxo_by, utxo_of, amount_of}
+use Rattle.def_spend.specs.HashTypes.{hash_type_of}
+use Rattle.def_spend.specs.SignatureHash.{signature_hash}
+use Rattle.def_spend.specs.Hashes.{script_or_none, script_in, spent_amount, hash_by}
+use Rattle.def_spend.specs.Good.{word_of}
+use Rattle.def_curve.specs.Judgement.{judge}
 use Rattle.def_spend.specs.Input.{Spend}
 use Rattle.def_spend.specs.Kinds.{program_of_utxo, is_nested, spent_utxo, spent_program, kind_with, kind_of}
 use Rattle.def_spend.specs.Reading.{has_byte, has_item, has_final, script_with, open_script, script_code}
-use Rattle.ms_spend_laws.specs.Planned.{ConsistsOf, HaveOwnHashes}
-use Rattle.ms_spend_laws.proofs.Mixed.{found_among, kept_among, first_or_rest, made_stays}
+use Rattle.ms_spend_laws.specs.Planned.{ConsistsOf, HaveOwnHashes, HasKeysOf}
+use Rattle.ms_spend_laws.proofs.Mixed.{found_among, kept_among, first_or_rest}
 use Rattle.def_spend.specs.declared.State.{State}
 use Rattle.def_spend.specs.declared.State.TheVariants as state
 
@@ -94,7 +100,7 @@ module _ (later fields added : Map) (parts : ConsistsOf later fields added) (sig
   pub asked_stays : asked_type later ≡ asked_type fields
   asked_stays = ap asked (field_stays SIGHASH_TYPE refl)
 
-  alike : SpendAlike fields later
+  pub alike : SpendAlike fields later
   alike = record {
     script_sig = field_stays FINAL_SCRIPTSIG refl;
     witness = field_stays FINAL_SCRIPTWITNESS refl;
@@ -103,6 +109,17 @@ module _ (later fields added : Map) (parts : ConsistsOf later fields added) (sig
     redeem = field_stays REDEEM_SCRIPT refl;
     script = field_stays WITNESS_SCRIPT refl;
   }
+
+-- two maps that are so to a third one are so to one another
+pub alike_both : (kept fields later : Map) → SpendAlike kept fields → SpendAlike kept later → SpendAlike fields later
+alike_both kept fields later one other = record {
+  script_sig = other.script_sig ∙ sym one.script_sig;
+  witness = other.witness ∙ sym one.witness;
+  previous = other.previous ∙ sym one.previous;
+  claim = other.claim ∙ sym one.claim;
+  redeem = other.redeem ∙ sym one.redeem;
+  script = other.script ∙ sym one.script;
+}
 
 -- ---- what an input spends, by such fields
 
@@ -143,8 +160,19 @@ script_alike spend later same =
     ap (λ b. script_unless b (open_script (record spend { fields = later }))) (final_alike spend.fields later same)
     ∙ ap (script_unless (has_final spend.fields)) (open_alike spend later same)
 
-pub script_stays : (spend : Spend) (later added : Map) → ConsistsOf later spend.fields added → AreSigned added → script_code (record spend { fields = later }) ≡ script_code spend
-script_stays spend later added parts signed = script_alike spend later (alike later spend.fields added parts signed)
+-- ---- what its signatures are
+
+abbrev hash_with : (number : ℕ) → Spend → (script : Bytes) → (amount : ℕ) → Option Bytes
+hash_with number spend script amount =
+    option_map (λ type. signature_hash type spend.transaction spend.number spend.input script amount) (hash_type_of number)
+
+pub hash_alike : (spend : Spend) (later : Map) → SpendAlike spend.fields later → (number : ℕ) → hash_by number (record spend { fields = later }) ≡ hash_by number spend
+hash_alike spend later same number =
+    ap (λ r. hash_with number spend (script_or_none r) (spent_amount (record spend { fields = later }))) (script_alike spend later same)
+    ∙ ap (λ u. hash_with number spend (script_in spend) (known_amount (amount_of u))) (utxo_alike spend.fields later same spend.input.outpoint)
+
+pub word_alike : (spend : Spend) (later : Map) → SpendAlike spend.fields later → (pair : Bytes × Bytes) → word_of (record spend { fields = later }) pair ≡ word_of spend pair
+word_alike spend later same pair = ap (λ (o : Option Bytes). judge pair.0 (unwrap_or o []) pair.1) (hash_alike spend later same (last_byte pair.1))
 
 -- ---- the reading
 
@@ -192,18 +220,16 @@ still_first keys key own i =
     let is = found_is (λ k. bytes_eq (hash160 k) (hash160 key)) keys f.0 f.1 in
     f.1 ∙ ap Some (own f.0 key is.1 i ((bytes_eq-Decides (hash160 f.0) (hash160 key)).0 is.0))
 
-pub decoded_among : (later fields added : Map) (script : Bytes) (tree : Tree) → ConsistsOf later fields added → HaveOwnHashes (keys_in later) → IsDecoded (keys_in fields) script tree
-    → IsDecoded (keys_in later) script tree
-decoded_among later fields added script tree parts own d =
-    let stays : (key : Key) → Contains (keys_in fields) key → Contains (keys_in later) key = λ key i. made_stays has_key (λ pair. data_of pair.key) later fields added parts key i in
-    record {
-      reading = record {
-        valid = d.reading.valid;
-        writable = d.reading.writable;
-        listed = each_key (λ key. Contains (keys_in fields) key) (λ key. Contains (keys_in later) key) stays tree d.reading.listed;
-        same = d.reading.same;
-      };
-      nested = d.nested;
-      first = each_key (λ key. first_with (keys_in fields) (hash160 key) ≡ Some key) (λ key. first_with (keys_in later) (hash160 key) ≡ Some key)
-          (λ key e. still_first (keys_in later) key own (stays key (found_is (λ k. bytes_eq (hash160 k) (hash160 key)) (keys_in fields) key e).1)) tree d.first;
-    }
+pub decoded_among : (fields later : Map) (script : Bytes) (tree : Tree) → HasKeysOf fields later → IsDecoded (keys_in fields) script tree → IsDecoded (keys_in later) script tree
+decoded_among fields later script tree (inl same) d = subst (λ (ks : List Key). IsDecoded ks script tree) (sym same) d
+decoded_among fields later script tree (inr h) d = record {
+  reading = record {
+    valid = d.reading.valid;
+    writable = d.reading.writable;
+    listed = each_key (λ key. Contains (keys_in fields) key) (λ key. Contains (keys_in later) key) h.1 tree d.reading.listed;
+    same = d.reading.same;
+  };
+  nested = d.nested;
+  first = each_key (λ key. first_with (keys_in fields) (hash160 key) ≡ Some key) (λ key. first_with (keys_in later) (hash160 key) ≡ Some key)
+      (λ key e. still_first (keys_in later) key h.0 (h.1 key (found_is (λ k. bytes_eq (hash160 k) (hash160 key)) (keys_in fields) key e).1)) tree d.first;
+}

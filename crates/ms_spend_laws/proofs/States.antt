@@ -25,10 +25,11 @@ use Rattle.def_spend.specs.declared.State.TheVariants as state
 use Rattle.def_spend.specs.Fields.{REDEEM_SCRIPT, WITNESS_SCRIPT, field, keys_in, signatures_in, asked_type}
 use Rattle.def_spend.specs.Utxo.{Utxo}
 use Rattle.def_spend.specs.Utxo as utxo
-use Rattle.def_spend.specs.Input.{Spend, assets_of}
-use Rattle.def_spend.specs.Kinds.{is_p2sh, p2sh_of, redeemed, program_in, program_of_utxo, is_nested, is_script_hash, kind_by, kind_with, spent_utxo, spent_program, pushed, script_sig_by, IsGuardedBy}
-use Rattle.def_spend.specs.Reading.{Input, has_final, script_for, script_of_program, script_with, script_code, ReadsAs, HasReading}
-use Rattle.def_spend.specs.States.{is_sighash_wrong, are_too_many, choice_state, held_state, unless_unfit, tree_state, state_by, state_of, stack_of}
+use Rattle.def_spend.specs.Input.{Spend}
+use Rattle.def_spend.specs.Good.{assets_of}
+use Rattle.def_spend.specs.Kinds.{is_p2sh, p2sh_of, redeemed, program_in, program_of_utxo, is_nested, is_script_hash, is_key_hash, kind_by, kind_with, kind_of, spent_utxo, spent_program, pushed, script_sig_by, IsGuardedBy, ends_in_script}
+use Rattle.def_spend.specs.Reading.{Input, has_final, script_for, key_hash_script, script_of_program, script_with, script_code, ReadsAs, HasReading}
+use Rattle.def_spend.specs.States.{is_sighash_wrong, are_too_many, choice_state, held_state, unless_unfit, tree_state, state_by, state_of, is_ready, stack_of}
 use Rattle.def_spend.specs.Finalized.{script_sig_of}
 use Rattle.ms_given_laws.specs.Given.{EachIsSound}
 use Rattle.ms_spend_laws.specs.Tried.{IsTried, IsTriedWith, ReadyExactly, UnsatisfiedExactly, OfEachIn}
@@ -74,61 +75,96 @@ utxo_found (utxo.claimed output) redeem = program_found output redeem
 
 -- ---- the Script
 
--- the script is that of the map, and the spent output is its program, or P2SH of that
-pub record IsScriptFor (known : Option TransactionOutput) (given : Option Bytes) (script_sig script : Bytes) : Type 0 where
+-- of P2WSH the script is that of the map, and the spent output is its program, or P2SH of that
+pub record IsScriptFor (known : Option TransactionOutput) (given : Option Bytes) (one : Kind) (script_sig script : Bytes) : Type 0 where
+  pub kind : ends_in_script one ≡ true
   pub output : TransactionOutput
   pub spent : known ≡ Some output
   pub held : given ≡ Some script
   pub guarded : IsGuardedBy (program_of script) output.script script_sig
 
+-- of P2WPKH it is that of a program, which is the spent output, or of which that is P2SH
+pub record IsKeyHashFor (known : Option TransactionOutput) (one : Kind) (script_sig script : Bytes) : Type 0 where
+  pub kind : ends_in_script one ≡ false
+  pub output : TransactionOutput
+  pub spent : known ≡ Some output
+  pub program : Bytes
+  pub key_hash : is_key_hash program ≡ true
+  pub is_script : script ≡ key_hash_script program
+  pub guarded : IsGuardedBy program output.script script_sig
+
 -- what a script that is found, and a state that is, tell
-abbrev pub Tells : Option TransactionOutput → (given : Option Bytes) → (script_sig : Bytes) → Result Bytes State → Type 0
-Tells known given script_sig (Ok script) = IsScriptFor known given script_sig script
-Tells known given script_sig (Err s) = ¬ IsChoice s
+abbrev pub Tells : Option TransactionOutput → (given : Option Bytes) → Kind → (script_sig : Bytes) → Result Bytes State → Type 0
+Tells known given one script_sig (Ok script) = IsScriptFor known given one script_sig script ⊎ IsKeyHashFor known one script_sig script
+Tells known given one script_sig (Err s) = ¬ IsChoice s
 
 -- the scriptSig of an output of a kind
 abbrev sig_by : Kind → (redeem : Option Bytes) → Bytes
 sig_by kind redeem = unwrap_or (script_sig_by kind (unwrap_or redeem [])) []
 
-abbrev script_kind : (nested : Bool) → Kind
-script_kind nested = if nested then kind.P2shP2wsh else kind.P2wsh
+-- the kind of a program, which has the hash of a key, or of a script
+abbrev kind_for : (key nested : Bool) → Kind
+kind_for true nested = if nested then kind.P2shP2wpkh else kind.P2wpkh
+kind_for false nested = if nested then kind.P2shP2wsh else kind.P2wsh
 
-guards_by : (nested : Bool) (redeem : Option Bytes) (program output : Bytes) → Guards nested redeem program output
-    → IsGuardedBy program output (sig_by (script_kind nested) redeem)
-guards_by true redeem program output (inl h) = absurd (false≢true (sym h.0))
-guards_by false redeem program output (inl h) = inl (h.1, refl)
-guards_by true redeem program output (inr h) = inr (h.2, ap (λ (o : Option Bytes). pushed (unwrap_or o [])) h.1)
-guards_by false redeem program output (inr h) = absurd (false≢true h.0)
+ends_in : (nested : Bool) → ends_in_script (kind_for false nested) ≡ true
+ends_in true = refl
+ends_in false = refl
+
+ends_without : (nested : Bool) → ends_in_script (kind_for true nested) ≡ false
+ends_without true = refl
+ends_without false = refl
+
+guards_by : (key nested : Bool) (redeem : Option Bytes) (program output : Bytes) → Guards nested redeem program output
+    → IsGuardedBy program output (sig_by (kind_for key nested) redeem)
+guards_by key true redeem program output (inl h) = absurd (false≢true (sym h.0))
+guards_by true false redeem program output (inl h) = inl (h.1, refl)
+guards_by false false redeem program output (inl h) = inl (h.1, refl)
+guards_by true true redeem program output (inr h) = inr (h.2, ap (λ (o : Option Bytes). pushed (unwrap_or o [])) h.1)
+guards_by false true redeem program output (inr h) = inr (h.2, ap (λ (o : Option Bytes). pushed (unwrap_or o [])) h.1)
+guards_by key false redeem program output (inr h) = absurd (false≢true h.0)
 
 for_tells : (known : Option TransactionOutput) (nested : Bool) (redeem : Option Bytes) (program : Bytes) (o : Option Bytes)
-    → Found known nested redeem (Ok program) → Tells known o (sig_by (script_kind nested) redeem) (script_for program o)
+    → Found known nested redeem (Ok program) → Tells known o (kind_for false nested) (sig_by (kind_for false nested) redeem) (script_for program o)
 for_tells known nested redeem program None found = λ h. h
 for_tells known nested redeem program (Some script) found = elim (cases_Bool (bytes_eq program (program_of script))) [
-  | inl e ↦ rw e (record {
+  | inl e ↦ rw e (inl (record {
+    kind = ends_in nested;
     output = found.0;
     spent = found.1;
     held = refl;
-    guarded = subst (λ (p : Bytes). IsGuardedBy p found.0.script (sig_by (script_kind nested) redeem)) ((bytes_eq-Decides program (program_of script)).0 e)
-        (guards_by nested redeem program found.0.script found.2);
-  })
+    guarded = subst (λ (p : Bytes). IsGuardedBy p found.0.script (sig_by (kind_for false nested) redeem)) ((bytes_eq-Decides program (program_of script)).0 e)
+        (guards_by false nested redeem program found.0.script found.2);
+  }))
   | inr e ↦ rw e (λ h. h)
 ]
 
 program_tells : (known : Option TransactionOutput) (nested : Bool) (redeem : Option Bytes) (program : Bytes) (o : Option Bytes)
-    → Found known nested redeem (Ok program) → Tells known o (sig_by (kind_by nested program) redeem) (script_of_program program o)
+    → Found known nested redeem (Ok program) → Tells known o (kind_by nested program) (sig_by (kind_by nested program) redeem) (script_of_program program o)
 program_tells known nested redeem program o found = elim (cases_Bool (is_script_hash program)) [
   | inl e ↦ rw e (for_tells known nested redeem program o found)
-  | inr e ↦ rw e (λ h. h)
+  | inr e ↦ elim (cases_Bool (is_key_hash program)) [
+    | inl k ↦ rw (e, k) (inr (record {
+      kind = ends_without nested;
+      output = found.0;
+      spent = found.1;
+      program = program;
+      key_hash = k;
+      is_script = refl;
+      guarded = guards_by true nested redeem program found.0.script found.2;
+    }))
+    | inr k ↦ rw (e, k) (λ h. h)
+  ]
 ]
 
 with_tells : (known : Option TransactionOutput) (nested : Bool) (redeem : Option Bytes) (r : Result Bytes State) (o : Option Bytes)
-    → Found known nested redeem r → Tells known o (sig_by (kind_with nested r) redeem) (script_with r o)
+    → Found known nested redeem r → Tells known o (kind_with nested r) (sig_by (kind_with nested r) redeem) (script_with r o)
 with_tells known nested redeem (Ok program) o found = program_tells known nested redeem program o found
 with_tells known nested redeem (Err s) o found = found
 
 -- what the Script of an input tells
-abbrev SpendTells : Spend → Result Bytes State → Type 0
-SpendTells spend r = Tells (spent_output spend) (field WITNESS_SCRIPT spend.fields) (script_sig_of spend) r
+abbrev pub SpendTells : Spend → Result Bytes State → Type 0
+SpendTells spend r = Tells (spent_output spend) (field WITNESS_SCRIPT spend.fields) (kind_of spend) (script_sig_of spend) r
 
 spend_tells : (spend : Spend) → SpendTells spend (script_code spend)
 spend_tells spend = elim (cases_Bool (has_final spend.fields)) [
@@ -137,8 +173,7 @@ spend_tells spend = elim (cases_Bool (has_final spend.fields)) [
       (field WITNESS_SCRIPT spend.fields) (utxo_found (spent_utxo spend) (field REDEEM_SCRIPT spend.fields)))
 ]
 
-pub script_is : (spend : Spend) (script : Bytes) → script_code spend ≡ Ok script
-    → IsScriptFor (spent_output spend) (field WITNESS_SCRIPT spend.fields) (script_sig_of spend) script
+pub script_is : (spend : Spend) (script : Bytes) → script_code spend ≡ Ok script → SpendTells spend (Ok script)
 script_is spend script e = subst (SpendTells spend) e (spend_tells spend)
 
 -- ---- an input whose state is a choice
@@ -193,6 +228,11 @@ state_is input tree script t =
 pub ready_some : (o : Option (List Bytes)) → choice_state o ≡ state.Ready → (stack : List Bytes) × (o ≡ Some stack)
 ready_some None e = absurd cc
 ready_some (Some stack) e = (stack, refl)
+
+-- a state that is ready is Ready
+pub ready_is : (s : State) → is_ready s ≡ true → s ≡ state.Ready
+ready_is state.Ready e = refl
+ready_is s e = absurd cc
 
 pub unsatisfied_none : (o : Option (List Bytes)) → choice_state o ≡ state.Unsatisfied → o ≡ None
 unsatisfied_none None e = refl

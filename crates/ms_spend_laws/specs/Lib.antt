@@ -1,4 +1,6 @@
 pub mod Tried
+pub mod KeyHash
 pub mod Ready
 pub mod Unsatisfied
 pub mod Planned
+pub mod Verified

@@ -4,18 +4,18 @@ use Rattle.def_hash.specs.Hash.{hash160}
 use Rattle.def_script.specs.Bytes.{Bytes}
 use Rattle.def_script.specs.Witness.{weight}
 use Rattle.def_tree.specs.Tree.{Tree, Key}
-use Rattle.def_assets.specs.Assets.{Assets, AreAssets}
+use Rattle.def_assets.specs.Assets.{Assets, AreAssets, sig_of}
 use Rattle.def_satisfaction.specs.Satisfaction.{Sat}
 use Rattle.def_plan.specs.Lengths.{IsLike}
 use Rattle.def_plan.specs.Plan.{Plan}
-use Rattle.def_psbt.specs.Map.{Map}
+use Rattle.def_psbt.specs.Map.{Map, data_of}
 use Rattle.def_psbt.specs.declared.PsbtVersion.{PsbtVersion}
 use Rattle.def_psbt.specs.Listed.{input_form}
 use Rattle.def_psbt.specs.Laws.{IsSoundMap}
 use Rattle.def_spend.specs.declared.State.TheVariants as state
-use Rattle.def_spend.specs.Fields.{is_signed, signatures_in, keys_in, last_byte, asked_type}
+use Rattle.def_spend.specs.Fields.{is_signed, keys_in, last_byte, asked_type}
 use Rattle.def_spend.specs.HashTypes.{hash_type_of}
-use Rattle.def_spend.specs.Input.{assets_of}
+use Rattle.def_spend.specs.Good.{counted_signatures, assets_of}
 use Rattle.def_spend.specs.Reading.{Input, HasReading}
 use Rattle.def_spend.specs.States.{are_too_many, state_of, stack_of}
 use Rattle.def_spend.specs.Asking.{plan_with, unsigned_keys}
@@ -43,17 +43,26 @@ ConsistsOf (pair ∷ map) some others =
 abbrev pub with_map : Input → (fields : Map) → Input
 with_map input fields = record input { spend = record input.spend { fields = fields } }
 
--- a map has the pairs of an input's and further ones, has nothing wrong in a version, and leaves what the input is read as. The further
--- pairs are signatures of compressed keys, so of 73 bytes at most, among them one of each of these keys, all of the asked
--- type, which is a hash type; and with them there aren't too many
+-- signatures of which none counts, by the assets that do
+abbrev pub ArePassedOver : Assets → Map → Type 0
+ArePassedOver assets former = All (λ pair. IsTrue (is_signed pair) × (sig_of assets (data_of pair.key) ≡ None)) former
+
+-- a map has the pairs of an input's and further ones, in the place of some signatures that don't count, has nothing wrong in a version,
+-- and leaves what the input is read as. The further pairs are signatures of compressed keys, so of 73 bytes at most, all of the asked
+-- type, which is a hash type; with them each of these keys has a signature that counts, and there aren't too many
 pub record AreAdded (input : Input) (keys : List Key) (added later : Map) : Type 0 where
-  pub parts : ConsistsOf later input.spend.fields added
+  -- the input's pairs that stay, and those whose place is taken
+  pub kept : Map
+  pub former : Map
+  pub own : ConsistsOf input.spend.fields kept former
+  pub passed_over : ArePassedOver (assets_of input.spend) former
+  pub parts : ConsistsOf later kept added
   pub version : PsbtVersion
   pub sound : IsSoundMap (input_form version) [] later
   pub bytes : IsMapOfBytes later
   pub read : HasReading (with_map input later)
   pub signatures : All (λ pair. IsTrue (is_signed pair)) added
-  pub each : (key : Key) → Contains keys key → (sig : Bytes) × Contains (signatures_in added) (key, sig)
+  pub each : (key : Key) → Contains keys key → (sig : Bytes) × Contains (counted_signatures (with_map input later).spend) (key, sig)
   pub type : IsSome (hash_type_of (asked_type input.spend.fields))
   pub types : All (λ pair. last_byte pair.value ≡ asked_type input.spend.fields) added
   pub few : are_too_many later ≡ false
@@ -63,8 +72,8 @@ pub record IsReadyWithin (input : Input) (most : ℕ) : Type 0 where
   pub ready : state_of input ≡ state.Ready
   pub weight : weight (stack_of input) ≤ most
 
--- where there is a plan, and each of its keys that has no signature adds one, the input is Ready, and weighs at most what the
--- plan does
+-- where there is a plan, and each of its keys of which no signature counts adds one that does, the input is Ready, and weighs at most
+-- what the plan does
 abbrev pub IsEnough : Input → Tree → Type 0
 IsEnough input tree =
     (plan : Plan) → plan_with tree (assets_of input.spend) ≡ Some plan →
@@ -78,10 +87,16 @@ PlanMakesReady = OfEachIn state.Unsatisfied IsEnough
 abbrev pub HaveOwnHashes : List Key → Type 0
 HaveOwnHashes keys = (one other : Key) → Contains keys one → Contains keys other → hash160 one ≡ hash160 other → one ≡ other
 
--- signatures leave what an input is read as, where they stand behind the other pairs, and anywhere where no two keys of the map
--- have one HASH160
+-- the keys of a map are those of another one, in its order; or they are that one's and others, and no two of them have one HASH160
+abbrev pub HasKeysOf : (fields later : Map) → Type 0
+HasKeysOf fields later =
+    (keys_in later ≡ keys_in fields)
+    ⊎ (HaveOwnHashes (keys_in later) × ((key : Key) → Contains (keys_in fields) key → Contains (keys_in later) key))
+
+-- signatures, which may stand in the place of others, leave what an input is read as, where they stand behind its pairs; where each
+-- stands in the place of one of the same key; and anywhere where no two keys of the map have one HASH160
 abbrev pub ReadingStays : Type 0
 ReadingStays =
-    OfEachIn state.Unsatisfied (λ input tree. (added later : Map) → ConsistsOf later input.spend.fields added →
-    All (λ pair. IsTrue (is_signed pair)) added → (later ≡ input.spend.fields ++ added) ⊎ HaveOwnHashes (keys_in later) →
-    HasReading (with_map input later))
+    OfEachIn state.Unsatisfied (λ input tree. (kept former added later : Map) → ConsistsOf input.spend.fields kept former →
+    ConsistsOf later kept added → All (λ pair. IsTrue (is_signed pair)) former → All (λ pair. IsTrue (is_signed pair)) added →
+    (later ≡ input.spend.fields ++ added) ⊎ HasKeysOf input.spend.fields later → HasReading (with_map input later))

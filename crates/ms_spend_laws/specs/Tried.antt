@@ -8,7 +8,7 @@ use Rattle.def_decode.specs.Decoded.{IsDecoded}
 use Rattle.def_spend.specs.declared.State.{State}
 use Rattle.def_spend.specs.declared.State.TheVariants as state
 use Rattle.def_spend.specs.Fields.{signatures_in, keys_in, asked_type}
-use Rattle.def_spend.specs.Input.{assets_of}
+use Rattle.def_spend.specs.Good.{assets_of}
 use Rattle.def_spend.specs.Reading.{Input, script_code}
 use Rattle.def_spend.specs.States.{is_sighash_wrong, are_too_many, state_of}
 use Rattle.ms_given_laws.specs.Given.{OfEachInput}

@@ -1,6 +1,7 @@
 //! What is promised of the inputs of a PSBT.
 
 ghost use Rattle.ms_spend_laws.specs.Tried.{ReadyExactly, UnsatisfiedExactly};
+ghost use Rattle.ms_spend_laws.specs.KeyHash.{KeyHashIsPkh, KeyHashIsReadAsPkh, PkhStack};
 ghost use Rattle.ms_spend_laws.specs.Ready.{
   ReadyIsCanonical,
   ReadyHasWitness,
@@ -11,7 +12,14 @@ ghost use Rattle.ms_spend_laws.specs.Ready.{
 };
 ghost use Rattle.ms_spend_laws.specs.Unsatisfied.{UnsatisfiedHasNothing};
 ghost use Rattle.ms_spend_laws.specs.Planned.{NoPlanIsVain, PlanMakesReady, ReadingStays};
+ghost use Rattle.ms_spend_laws.specs.Verified.{
+  GoodIsTaken,
+  ReadyIsAcceptedByConsensus,
+  AllGoodIsSame,
+  StatesDiffer,
+};
 
+use def_verify::laws::hashes;
 use ms_given_laws::laws::given;
 
 /// An input is Ready exactly where its map makes a canonical satisfaction of a sane miniscript, and Unsatisfied exactly
@@ -22,6 +30,13 @@ pub fn tried()
 {
     given();
 }
+
+/// The Script of P2WPKH is read as `pkh` of its key alone, and what satisfies that is a signature and the key.
+pub fn key_hash()
+    ensures script { KeyHashIsPkh }
+    ensures reading { KeyHashIsReadAsPkh }
+    ensures stack { PkhStack }
+{}
 
 /// The witness of a Ready input is a canonical satisfaction with the witness script, the interpreter accepts it, and nobody
 /// can change it.
@@ -45,4 +60,17 @@ pub fn unsatisfied()
     ensures reading { ReadingStays }
 {
     given();
+}
+
+/// Where the good signatures of an input count, consensus takes each of them by its own check, so that its interpreter accepts the
+/// witness of a Ready input. Where each signature is good, it is the same whether all count or the good ones; and where the states
+/// differ, it is Ready with all, and Unsatisfied with the good ones.
+pub fn verified()
+    ensures taken { GoodIsTaken }
+    ensures accepted { ReadyIsAcceptedByConsensus }
+    ensures all_good { AllGoodIsSame }
+    ensures differ { StatesDiffer }
+{
+    given();
+    hashes();
 }

@@ -14,7 +14,7 @@ use Rattle.std.proofs.lemmas.Bool.{false≢true}
 use Rattle.def_script.specs.Bytes.{Bytes}
 use Rattle.def_tree.specs.Range.{IsKey, IsWritable, AreWritable}
 use Rattle.def_types.specs.Typed.{IsTyped, AreTyped}
-use Rattle.def_types.proofs.Rows.{mall_rows}
+use Rattle.def_types.proofs.Rows.{malleability_rows}
 use Rattle.def_types.proofs.Facts.{typed-multi}
 use Rattle.def_assets.specs.Assets.{Assets, unsigned}
 use Rattle.def_sane.specs.Keys.{keys, keys_of_all}
@@ -123,7 +123,7 @@ module _ (assets : Assets) where
   quiet_still x w f = let d = signed_dsat assets x w f in (d, dsat_quiet x w d)
 
   mutual
-    unfolding mall_rows
+    unfolding malleability_rows
 
     pub free_quiet : (tree : Tree) → IsTyped tree → (w : Stack) → (free_row assets tree).sat w → IsQuiet tree w
     free_quiet just_0 t w f = absurd f

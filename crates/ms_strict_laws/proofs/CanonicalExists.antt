@@ -13,8 +13,8 @@ use Rattle.def_tree.specs.declared.Two.TheVariants as kind
 use Rattle.def_tree.specs.declared.Wrapper.TheVariants as wrapper
 use Rattle.def_tree.specs.Tree.{Tree, Trees, Key, just_0, just_1, pk_k, pk_h, older, after, hash, and_or, two, thresh, multi, wrap, none, more}
 use Rattle.def_tree.specs.Range.{IsWritable, AreWritable}
-use Rattle.def_types.specs.Typed.{IsTyped, AreTyped, mall_of, malls_of, IsMallTyped, AreMallTyped}
-use Rattle.def_types.proofs.Rows.{mall_rows}
+use Rattle.def_types.specs.Typed.{IsTyped, AreTyped, properties_of, all_properties_of, IsMalleabilityTyped, AreMalleabilityTyped}
+use Rattle.def_types.proofs.Rows.{malleability_rows}
 use Rattle.def_assets.specs.Assets.{Assets, known}
 use Rattle.def_sane.specs.Keys.{keys, keys_of_all}
 use Rattle.def_satisfaction.specs.StackSet.{StackSet, Is, Both, Either}
@@ -88,9 +88,9 @@ signatures_give s t (key ∷ own) h (sig ∷ sigs) (inr r) = inr (signatures_giv
 
 module _ (s t : Setting) (has : HasAssets s t) where
   mutual
-    unfolding mall_rows
+    unfolding malleability_rows
 
-    pub sat_gives : (tree : Tree) → IsWritable tree → IsTyped tree → IsMallTyped tree → KeysGive s t (keys tree) → Gives (row s tree).sat (row t tree).sat
+    pub sat_gives : (tree : Tree) → IsWritable tree → IsTyped tree → IsMalleabilityTyped tree → KeysGive s t (keys tree) → Gives (row s tree).sat (row t tree).sat
     sat_gives just_0 k typed safe h = λ w r. absurd r
     sat_gives just_1 k typed safe h = λ w r. (w, r)
     sat_gives (pk_k key) k typed safe h = λ w r. (w, (r.0, (h key key r.0 (first_key key) refl (counts_itself s.mode key) r.1).1, r.2))
@@ -108,7 +108,7 @@ module _ (s t : Setting) (has : HasAssets s t) where
     sat_gives (two kind.AndB x y) k typed safe h =
         both_gives _ _ _ _ (sat_gives y k.1 typed.1 safe.1 (give_right s t (keys x) (keys y) h)) (sat_gives x k.0 typed.0 safe.0 (give_left s t (keys x) (keys y) h))
     sat_gives (two kind.OrB x z) k typed safe h =
-        let p = and_parts (mall_of x).e (mall_of z).e safe.2.0 in
+        let p = and_parts (properties_of x).e (properties_of z).e safe.2.0 in
         or_b_gives s t (row s x) (row s z) (row t x) (row t z)
         (sat_gives x k.0 typed.0 safe.0 (give_left s t (keys x) (keys z) h)) (sat_gives z k.1 typed.1 safe.1 (give_right s t (keys x) (keys z) h))
         (free_dsat t x k.0 safe.0 p.0) (free_dsat t z k.1 safe.1 p.1)
@@ -125,21 +125,22 @@ module _ (s t : Setting) (has : HasAssets s t) where
     sat_gives (wrap wrapper.D x) k typed safe h = both_gives _ _ _ _ (sat_gives x k typed.0 safe.0 h) (is_given ONE)
     sat_gives (wrap letter x) k typed safe h = sat_gives x k typed.0 safe.0 h
 
-    pub parts_sat_give : (xs : Trees) → AreWritable xs → AreTyped xs → AreMallTyped xs → KeysGive s t (keys_of_all xs) → all_e (malls_of xs) ≡ true → (n : ℕ) → Gives (parts s xs n) (parts t xs n)
+    pub parts_sat_give : (xs : Trees) → AreWritable xs → AreTyped xs → AreMalleabilityTyped xs → KeysGive s t (keys_of_all xs) → all_e (all_properties_of xs) ≡ true → (n : ℕ)
+        → Gives (parts s xs n) (parts t xs n)
     parts_sat_give none k typed safe h e n = λ w r. (w, r)
     parts_sat_give (more x xs) k typed safe h e n =
-        let p = and_parts (mall_of x).e (all_e (malls_of xs)) e in
+        let p = and_parts (properties_of x).e (all_e (all_properties_of xs)) e in
         parts_give (row s x) (row t x) (parts s xs) (parts t xs)
         (sat_gives x k.0 typed.0 safe.0 (give_left s t (keys x) (keys_of_all xs) h)) (free_dsat t x k.0 safe.0 p.0)
         (parts_sat_give xs k.1 typed.1 safe.1 (give_right s t (keys x) (keys_of_all xs) h) p.1) n
 
 -- where the table has none of the miniscript's keys
-pub free_sat : (s t : Setting) → HasAssets s t → (tree : Tree) → IsWritable tree → IsTyped tree → IsMallTyped tree → NoKeys s (keys tree) → Gives (row s tree).sat (row t tree).sat
+pub free_sat : (s t : Setting) → HasAssets s t → (tree : Tree) → IsWritable tree → IsTyped tree → IsMalleabilityTyped tree → NoKeys s (keys tree) → Gives (row s tree).sat (row t tree).sat
 free_sat s t has tree k typed safe h =
     sat_gives s t has tree k typed safe (λ key other sig i same counts good. absurd (false≢true (sym (h key other sig i same counts) ∙ good)))
 
 -- where it is the table of the assets
-pub canonical_sat : (assets : Assets) (tree : Tree) → IsWritable tree → IsTyped tree → IsMallTyped tree
+pub canonical_sat : (assets : Assets) (tree : Tree) → IsWritable tree → IsTyped tree → IsMalleabilityTyped tree
     → Gives (row (full (given_of assets) (only (known assets))) tree).sat (row (canonical assets) tree).sat
 canonical_sat assets tree k typed safe =
     let s = full (given_of assets) (only (known assets)) in

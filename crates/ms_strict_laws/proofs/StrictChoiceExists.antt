@@ -6,15 +6,17 @@ use Rattle.def_machine.specs.Stacks.{Stack}
 use Rattle.def_tree.specs.Tree.{Trees, none, more, Tree, and_or, two, thresh, wrap}
 use Rattle.def_tree.specs.Range.{AreWritable, IsWritable, count}
 use Rattle.def_types.specs.Malleable.{count_not_s}
-use Rattle.def_types.specs.Typed.{AreTyped, mall_of, malls_of, IsTyped, IsMallTyped, AreMallTyped}
+use Rattle.def_types.specs.Typed.{AreTyped, properties_of, all_properties_of, IsTyped, IsMalleabilityTyped, AreMalleabilityTyped}
 use Rattle.def_assets.specs.Assets.{Assets, AreAssets}
 use Rattle.def_satisfaction.specs.StackSet.{StackSet, Both, Either, Is, If}
 use Rattle.def_satisfaction.specs.Rows.{PartsOf, parts, EMPTY, ONE, PartsOfNone}
 use Rattle.def_satisfaction.specs.Satisfaction.{canonical, Sat}
 use Rattle.def_satisfaction.proofs.Wider.{Within, both_within, same}
 use Rattle.def_choice.specs.Lightest.{IsLightest}
-use Rattle.def_choice.specs.Cheapest.{cheapest_of, dissatisfaction, Child}
-use Rattle.def_choice.specs.Strict.{free, free_first, free_children, strict_of, strict_children, strict}
+use Rattle.def_choice.specs.Cheapest.{cheapest_of, Child}
+use Rattle.def_choice.specs.Dissatisfaction.{dissatisfaction}
+use Rattle.def_choice.specs.Strict.{free_first, free_children, strict_of, strict_children, strict}
+use Rattle.def_choice.specs.Free.{free}
 use Rattle.def_choice.specs.Tight.{HasOne, FreeFirst, required, signed_row, free_row, TightSat, TightParts, Tight}
 use Rattle.def_choice.proofs.Cheapest.{sat_best, dsat_best}
 use Rattle.def_choice.proofs.StrictTight.{free_best, choice, choice_counted, free_dsat_best, below_free, always}
@@ -25,7 +27,7 @@ use Rattle.std.specs.List.{list_all}
 use Rattle.def_script.specs.Bytes.{Bytes}
 use Rattle.def_tree.specs.declared.Two.TheVariants as kind
 use Rattle.def_tree.specs.declared.Wrapper.TheVariants as wrapper
-use Rattle.def_types.proofs.Rows.{mall_rows}
+use Rattle.def_types.proofs.Rows.{malleability_rows}
 use Rattle.def_choice.specs.Least.{both}
 use Rattle.def_choice.proofs.Best.{none_best, one_best, best_as, best_both, best_two, best_reverse}
 use Rattle.def_choice.proofs.Counted.{counted, counted_best}
@@ -143,10 +145,10 @@ module _ (assets : Assets) (are : AreAssets assets) where
       free_is_met (free_row assets x).sat (signed_row assets x).sat (count_free assets xs) (count_met assets xs) (free assets x) (cheapest_of assets x)
       (free_best assets are x w.0) (sat_best assets are x w.0) (free_within assets x) (free_below_met xs w.1)
 
-  free_not_s : (xs : Trees) → AreWritable xs → AreTyped xs → count_free assets xs ≤ count_not_s (malls_of xs)
+  free_not_s : (xs : Trees) → AreWritable xs → AreTyped xs → count_free assets xs ≤ count_not_s (all_properties_of xs)
   free_not_s none w t = omega arith
   free_not_s (more x xs) w t =
-      not_free (free_row assets x).sat (count_free assets xs) (count_not_s (malls_of xs)) (free assets x) (mall_of x).s
+      not_free (free_row assets x).sat (count_free assets xs) (count_not_s (all_properties_of xs)) (free assets x) (properties_of x).s
       (free_best assets are x w.0) (signs assets x t.0) (free_not_s xs w.1 t.1)
 
   -- so many are satisfied as can be met
@@ -262,46 +264,46 @@ module _ (assets : Assets) (are : AreAssets assets) where
   }
 
   -- children with s, of which one option has a part: not both have a free stack
-  below_signs : (x : Tree) (P : StackSet) → IsTyped x → (mall_of x).s ≡ true → HasOne (Both (free_row assets x).sat P) → ⊥
+  below_signs : (x : Tree) (P : StackSet) → IsTyped x → (properties_of x).s ≡ true → HasOne (Both (free_row assets x).sat P) → ⊥
   below_signs x P t s one = let h = one.1 in signs assets x t s h.0 h.2
 
-  above_signs : (x : Tree) (P : StackSet) → IsTyped x → (mall_of x).s ≡ true → HasOne (Both P (free_row assets x).sat) → ⊥
+  above_signs : (x : Tree) (P : StackSet) → IsTyped x → (properties_of x).s ≡ true → HasOne (Both P (free_row assets x).sat) → ⊥
   above_signs x P t s one = let h = one.1 in signs assets x t s h.1 h.3
 
   apart : (F G : StackSet) (a b : Bool) → (a ≡ true → HasOne F → ⊥) → (b ≡ true → HasOne G → ⊥) → (a || b) ≡ true → HasOne F → HasOne G → ⊥
   apart F G a b f g e p q = elim (or_cases a b e) [ inl s ↦ f s p | inr s ↦ g s q ]
 
   mutual
-    unfolding mall_rows
+    unfolding malleability_rows
 
-    found_tight : (tree : Tree) → IsWritable tree → IsTyped tree → IsMallTyped tree → FoundTight tree
+    found_tight : (tree : Tree) → IsWritable tree → IsTyped tree → IsMalleabilityTyped tree → FoundTight tree
     found_tight (and_or x y z) w t m =
         found_first
         (both_ways (sat_way y w.1 (found_tight y w.1 t.1 m.1)) (sat_way x w.0 (found_tight x w.0 t.0 m.0)))
         (both_ways (sat_way z w.2 (found_tight z w.2 t.2 m.2)) (dsat_way x w.0))
-        (apart _ _ ((mall_of x).s || (mall_of y).s) (mall_of z).s
-        (λ s. elim (or_cases (mall_of x).s (mall_of y).s s) [ inl i ↦ above_signs x _ t.0 i | inr i ↦ below_signs y _ t.1 i ])
+        (apart _ _ ((properties_of x).s || (properties_of y).s) (properties_of z).s
+        (λ s. elim (or_cases (properties_of x).s (properties_of y).s s) [ inl i ↦ above_signs x _ t.0 i | inr i ↦ below_signs y _ t.1 i ])
         (below_signs z _ t.2) m.3.1.0)
     found_tight (two kind.OrB x z) w t m =
         let f = found_first
         (both_ways (dsat_way z w.1) (sat_way x w.0 (found_tight x w.0 t.0 m.0))) (both_ways (sat_way z w.1 (found_tight z w.1 t.1 m.1)) (dsat_way x w.0))
-        (apart _ _ (mall_of x).s (mall_of z).s (above_signs x _ t.0) (below_signs z _ t.1) m.2.1.0) in
+        (apart _ _ (properties_of x).s (properties_of z).s (above_signs x _ t.0) (below_signs z _ t.1) m.2.1.0) in
         record { best = f.best; exists = λ one. f.exists (not_third _ _ _ assets one) }
     found_tight (two kind.OrC x z) w t m =
         found_first
         (sat_way x w.0 (found_tight x w.0 t.0 m.0)) (both_ways (sat_way z w.1 (found_tight z w.1 t.1 m.1)) (dsat_way x w.0))
-        (apart _ _ (mall_of x).s (mall_of z).s (λ s one. signs assets x t.0 s one.0 one.1) (below_signs z _ t.1) m.2.1.0)
+        (apart _ _ (properties_of x).s (properties_of z).s (λ s one. signs assets x t.0 s one.0 one.1) (below_signs z _ t.1) m.2.1.0)
     found_tight (two kind.OrD x z) w t m =
         found_first
         (sat_way x w.0 (found_tight x w.0 t.0 m.0)) (both_ways (sat_way z w.1 (found_tight z w.1 t.1 m.1)) (dsat_way x w.0))
-        (apart _ _ (mall_of x).s (mall_of z).s (λ s one. signs assets x t.0 s one.0 one.1) (below_signs z _ t.1) m.2.1.0)
+        (apart _ _ (properties_of x).s (properties_of z).s (λ s one. signs assets x t.0 s one.0 one.1) (below_signs z _ t.1) m.2.1.0)
     found_tight (two kind.OrI x z) w t m =
         found_first
         (both_ways (sat_way x w.0 (found_tight x w.0 t.0 m.0)) (item_way ONE)) (both_ways (sat_way z w.1 (found_tight z w.1 t.1 m.1)) (item_way EMPTY))
-        (apart _ _ (mall_of x).s (mall_of z).s (below_signs x _ t.0) (below_signs z _ t.1) m.2.0)
+        (apart _ _ (properties_of x).s (properties_of z).s (below_signs x _ t.0) (below_signs z _ t.1) m.2.0)
     found_tight (two which x y) w t m = found_of (both_ways (sat_way y w.1 (found_tight y w.1 t.1 m.1)) (sat_way x w.0 (found_tight x w.0 t.0 m.0)))
     found_tight (thresh k xs) w t m =
-        let most = leb-true (count_not_s (malls_of xs)) k m.1.1.0 in
+        let most = leb-true (count_not_s (all_properties_of xs)) k m.1.1.0 in
         let few = free_not_s assets are xs w.2 t.0 in record {
           best = strict_parts_best xs w.2 t.0 m.0 k;
           exists = λ one. tight_parts xs w.2 t.0 m.0 m.1.0 k (omega (arith, most, few)) (met_at_least assets are xs w.2 k one.0 one.1);
@@ -311,18 +313,18 @@ module _ (assets : Assets) (are : AreAssets assets) where
     found_tight tree w t m = record { best = sat_best assets are tree w; exists = λ one. one }
 
     -- of several that all have e, any number between the free ones and those that can be met
-    tight_parts : (xs : Trees) → AreWritable xs → AreTyped xs → AreMallTyped xs → list_all (λ x. x.e) (malls_of xs) ≡ true →
+    tight_parts : (xs : Trees) → AreWritable xs → AreTyped xs → AreMalleabilityTyped xs → list_all (λ x. x.e) (all_properties_of xs) ≡ true →
         (n : ℕ) → count_free assets xs ≤ n → n ≤ count_met assets xs → HasOne (TightParts assets xs n)
     tight_parts none w t m e n low high = ([], (omega (arith, high), refl))
     tight_parts (more x xs) w t m e n low high =
-        let f = and_parts (mall_of x).e (list_all (λ y. y.e) (malls_of xs)) e in
+        let f = and_parts (properties_of x).e (list_all (λ y. y.e) (all_properties_of xs)) e in
         one_more (free_row assets x).sat (signed_row assets x).sat (signed_row assets x).dsat (TightSat assets x) (TightParts assets xs)
         (count_free assets xs) (count_met assets xs) (free assets x) (cheapest_of assets x)
         (free_best assets are x w.0) (sat_best assets are x w.0) (free_within assets x)
         (found_tight x w.0 t.0 m.0).exists (tight_free assets x) (has_dsat (canonical assets) x w.0 m.0 f.0)
         (free_below_met assets are xs w.1) (tight_parts xs w.1 t.1 m.1 f.1) n low high
 
-    strict_parts_best : (xs : Trees) → AreWritable xs → AreTyped xs → AreMallTyped xs → (k : ℕ) →
+    strict_parts_best : (xs : Trees) → AreWritable xs → AreTyped xs → AreMalleabilityTyped xs → (k : ℕ) →
         IsLightest (TightParts assets xs k) (choice (strict_children assets xs) (free_children assets xs) (count xs) k)
     strict_parts_best none w t m zero = one_best (PartsOfNone zero) [] (refl, refl) (λ v h. h.1)
     strict_parts_best none w t m (suc k) = none_best (PartsOfNone (suc k)) (λ v h. omega (arith, h.0))
@@ -341,10 +343,10 @@ module _ (assets : Assets) (are : AreAssets assets) where
         (best_unwanted (free_row assets x).sat (signed_row assets x).dsat (free assets x) (dissatisfaction x) (free_best assets are x w.0) (dsat_best assets x w.0))
         (strict_parts_best xs w.1 t.1 m.1) k)
 
-  strict_best : (tree : Tree) → IsWritable tree → IsTyped tree → IsMallTyped tree → IsLightest (TightSat assets tree) (strict_of assets tree)
+  strict_best : (tree : Tree) → IsWritable tree → IsTyped tree → IsMalleabilityTyped tree → IsLightest (TightSat assets tree) (strict_of assets tree)
   strict_best tree w t m = (found_tight tree w t m).best
 
-  tight_exists : (tree : Tree) → IsWritable tree → IsTyped tree → IsMallTyped tree → HasOne (signed_row assets tree).sat → HasOne (TightSat assets tree)
+  tight_exists : (tree : Tree) → IsWritable tree → IsTyped tree → IsMalleabilityTyped tree → HasOne (signed_row assets tree).sat → HasOne (TightSat assets tree)
   tight_exists tree w t m = (found_tight tree w t m).exists
 
 -- the strict choice is the lightest tight satisfaction

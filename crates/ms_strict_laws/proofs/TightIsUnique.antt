@@ -8,8 +8,8 @@ use Rattle.def_tree.specs.declared.Two.TheVariants as kind
 use Rattle.def_tree.specs.declared.Wrapper.TheVariants as wrapper
 use Rattle.def_tree.specs.Tree.{Tree, Trees, Key, just_0, just_1, pk_k, pk_h, hash, and_or, two, thresh, multi, wrap, none, more}
 use Rattle.def_tree.specs.Range.{IsWritable}
-use Rattle.def_types.specs.Typed.{IsTyped, mall_of, malls_of, IsMallTyped}
-use Rattle.def_types.proofs.Rows.{mall_rows}
+use Rattle.def_types.specs.Typed.{IsTyped, properties_of, all_properties_of, IsMalleabilityTyped}
+use Rattle.def_types.proofs.Rows.{malleability_rows}
 use Rattle.def_assets.specs.Assets.{Assets, known}
 use Rattle.def_sane.specs.Keys.{keys, keys_of_all, AreDistinct}
 use Rattle.def_satisfaction.specs.Setting.{Setting, only}
@@ -48,7 +48,7 @@ module _ (assets : Assets) (checker : Checker) (holds : Holds checker assets) wh
   signed_here (key ∷ own) (sig ∷ sigs) (inr h) = inr (signed_here own (sig ∷ sigs) h)
 
   mutual
-    unfolding mall_rows
+    unfolding malleability_rows
 
     pub one_sat : (t : Tree) → Fits t → (w : Stack) → TightSat assets t w → One t w
     one_sat just_0 f w r = absurd r
@@ -83,11 +83,11 @@ module _ (assets : Assets) (checker : Checker) (holds : Holds checker assets) wh
     one_sat (two kind.OrB x z) f w (inl (r, free)) =
         let t = fit_two kind.OrB x z f in
         let i = one_sat x t.0 r.1 r.3 in
-        let j = dsat_sole assets checker z t.1 (and_parts (mall_of x).e (mall_of z).e f.safe.2.0).1 r.0 r.2 in
+        let j = dsat_sole assets checker z t.1 (and_parts (properties_of x).e (properties_of z).e f.safe.2.0).1 r.0 r.2 in
         (inl (r.0, r.1, j.0, i.0, r.4), or_b_first assets x z _ _ w r.1 r.0 f r.4 i.1 j.2 (j.1 (keys x)) free)
     one_sat (two kind.OrB x z) f w (inr (r, free)) =
         let t = fit_two kind.OrB x z f in
-        let i = dsat_sole assets checker x t.0 (and_parts (mall_of x).e (mall_of z).e f.safe.2.0).0 r.1 r.3 in
+        let i = dsat_sole assets checker x t.0 (and_parts (properties_of x).e (properties_of z).e f.safe.2.0).0 r.1 r.3 in
         let j = one_sat z t.1 r.0 r.2 in
         (inr (inl (r.0, r.1, j.0, i.0, r.4)), or_b_second assets x z _ _ w r.1 r.0 f r.4 i.2 j.1 (i.1 (keys z)) free)
     one_sat (two kind.OrI x z) f w (inl (r, free)) =
@@ -122,12 +122,12 @@ module _ (assets : Assets) (checker : Checker) (holds : Holds checker assets) wh
     one_sat (wrap letter x) f w r = one_sat x (fit_wrap letter x f) w r
     one_sat tree f w r = (r, fixed_sole [] _ w [] (λ other v h. h.1) r.1)
 
-    pub one_parts : (xs : Trees) → AllFit xs → all_e (malls_of xs) ≡ true → (n : ℕ) (w : Stack) → TightParts assets xs n w → OneOf xs n w
+    pub one_parts : (xs : Trees) → AllFit xs → all_e (all_properties_of xs) ≡ true → (n : ℕ) (w : Stack) → TightParts assets xs n w → OneOf xs n w
     one_parts none f e n w r =
         (r, record { inside = λ key sig h. absurd (in_none [] key sig refl h); only = λ other c m v h. (let i = h.0 in let j = r.0 in (omega arith, λ same. h.1 ∙ sym r.1)) })
     one_parts (more x xs) f e n w (inl (m, g, (below, above, rest, taken, eq))) =
         let t = fit_more x xs f in
-        let es = and_parts (mall_of x).e (all_e (malls_of xs)) e in
+        let es = and_parts (properties_of x).e (all_e (all_properties_of xs)) e in
         let i = one_sat x t.0 above taken.0 in
         let j = one_parts xs t.1 es.1 m below rest in (
           inl (m, g, (below, above, j.0, i.0, eq)),
@@ -135,7 +135,7 @@ module _ (assets : Assets) (checker : Checker) (holds : Holds checker assets) wh
         )
     one_parts (more x xs) f e n w (inr (below, above, rest, (unfree, taken), eq)) =
         let t = fit_more x xs f in
-        let es = and_parts (mall_of x).e (all_e (malls_of xs)) e in
+        let es = and_parts (properties_of x).e (all_e (all_properties_of xs)) e in
         let i = dsat_sole assets checker x t.0 es.0 above taken in
         let j = one_parts xs t.1 es.1 n below rest in (
           inr (below, above, j.0, i.0, eq),
@@ -145,7 +145,7 @@ module _ (assets : Assets) (checker : Checker) (holds : Holds checker assets) wh
 
 -- a tight satisfaction has a row under each table that holds the assets' pairs; and under no table, which of the
 -- miniscript's keys has but the pairs of that row, has it another satisfaction
-pub only_sat : (assets : Assets) (checker : Checker) → Holds checker assets → (tree : Tree) → IsWritable tree → IsTyped tree → IsMallTyped tree
+pub only_sat : (assets : Assets) (checker : Checker) → Holds checker assets → (tree : Tree) → IsWritable tree → IsTyped tree → IsMalleabilityTyped tree
     → AreDistinct (keys tree) → (w : Stack) → TightSat assets tree w →
     (r : (row (at assets checker) tree).sat w) ×
     ((other : Checker) → Covered other (keys tree) (sat_log (at assets checker) tree w r).checks → (v : Stack) → (row (full (given_with assets other) (only (known assets))) tree).sat v → v ≡ w)

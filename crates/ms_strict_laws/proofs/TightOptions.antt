@@ -11,8 +11,8 @@ use Rattle.def_tree.specs.declared.Two.TheVariants as kind
 use Rattle.def_tree.specs.declared.Wrapper.{Wrapper}
 use Rattle.def_tree.specs.Tree.{Tree, Trees, Key, pk_k, pk_h, and_or, two, multi, wrap, more}
 use Rattle.def_tree.specs.Range.{IsWritable, AreWritable}
-use Rattle.def_types.specs.Typed.{IsTyped, AreTyped, mall_of, IsMallTyped, AreMallTyped}
-use Rattle.def_types.proofs.Rows.{mall_rows}
+use Rattle.def_types.specs.Typed.{IsTyped, AreTyped, properties_of, IsMalleabilityTyped, AreMalleabilityTyped}
+use Rattle.def_types.proofs.Rows.{malleability_rows}
 use Rattle.def_assets.specs.Assets.{Assets, known, unsigned}
 use Rattle.def_sane.specs.Keys.{keys, keys_of_all, AreDistinct}
 use Rattle.def_satisfaction.specs.StackSet.{StackSet, Is, Both, Either}
@@ -39,13 +39,13 @@ use Rattle.ms_strict_laws.proofs.PairSets.{first_or_later, in_none, Inside, has_
 pub record Fits (t : Tree) : Type 0 where
   pub writable : IsWritable t
   pub typed : IsTyped t
-  pub safe : IsMallTyped t
+  pub safe : IsMalleabilityTyped t
   pub distinct : AreDistinct (keys t)
 
 pub record AllFit (xs : Trees) : Type 0 where
   pub writable : AreWritable xs
   pub typed : AreTyped xs
-  pub safe : AreMallTyped xs
+  pub safe : AreMalleabilityTyped xs
   pub distinct : AreDistinct (keys_of_all xs)
 
 pub fit_wrap : (wrapper : Wrapper) (x : Tree) → Fits (wrap wrapper x) → Fits x
@@ -99,17 +99,17 @@ module _ (assets : Assets) where
   pub freed : (checker : Checker) (t : Tree) → Fits t → NoneOf checker (keys t) → Gives (row (under assets checker) t).sat (row bare t).sat
   freed checker t f h = free_sat (under assets checker) bare (has_assets checker) t f.writable f.typed f.safe (no_keys checker (keys t) h)
 
-  not_sat : (checker : Checker) (t : Tree) → Fits t → NoneOf checker (keys t) → (mall_of t).s ≡ true → IsEmpty (row (under assets checker) t).sat
+  not_sat : (checker : Checker) (t : Tree) → Fits t → NoneOf checker (keys t) → (properties_of t).s ≡ true → IsEmpty (row (under assets checker) t).sat
   not_sat checker t f h = (needs (under assets checker) t f.typed (no_keys checker (keys t) h)).sat
 
-  not_free : (t : Tree) → Fits t → (mall_of t).s ≡ true → IsEmpty (row bare t).sat
+  not_free : (t : Tree) → Fits t → (properties_of t).s ≡ true → IsEmpty (row bare t).sat
   not_free t f = (needs bare t f.typed (no_table bare (keys t) refl)).sat
 
   -- not both of two options without signatures, where one has the letter s
-  clash : (checker : Checker) (x z : Tree) → Fits x → Fits z → NoneOf checker (keys z) → ((mall_of x).s || (mall_of z).s) ≡ true → HasOne (row bare x).sat
+  clash : (checker : Checker) (x z : Tree) → Fits x → Fits z → NoneOf checker (keys z) → ((properties_of x).s || (properties_of z).s) ≡ true → HasOne (row bare x).sat
       → HasOne (row (under assets checker) z).sat → ⊥
   clash checker x z f g h e p q =
-      elim (or_cases (mall_of x).s (mall_of z).s e) [ inl a ↦ not_free x f a p.0 p.1 | inr b ↦ not_sat checker z g h b q.0 q.1 ]
+      elim (or_cases (properties_of x).s (properties_of z).s e) [ inl a ↦ not_free x f a p.0 p.1 | inr b ↦ not_sat checker z g h b q.0 q.1 ]
 
   -- the sets of a fragment under a table
   abbrev pub Sats : Tree → Checker → StackSet
@@ -127,7 +127,7 @@ module _ (assets : Assets) where
     abbrev pub s0 : Setting
     s0 = at assets checker
 
-    pub dsat_sole : (t : Tree) → Fits t → (mall_of t).e ≡ true → (w : Stack) → (row (canonical assets) t).dsat w →
+    pub dsat_sole : (t : Tree) → Fits t → (properties_of t).e ≡ true → (w : Stack) → (row (canonical assets) t).dsat w →
         (r : (row s0 t).dsat w) × ((keys' : List Key) → Inside (dsat_log s0 t w r).checks keys') × Sole (keys t) (dsat_log s0 t w r).checks (Dsats t) w
     dsat_sole t f e w d =
         let r = dsat_within (canonical assets) s0 false≢true (λ key other h. h) t w d in
@@ -205,25 +205,25 @@ turned a b apart key i j = apart key j i
 module _ (assets : Assets) where
   -- of two options, the other one's child isn't satisfied
   no_other : (x z : Tree) (checks : Pairs) (checker : Checker) (own : List Key) → Fits x → Fits z → Disjoint (keys x) (keys z) → Among (keys z) own
-      → ((mall_of x).s || (mall_of z).s) ≡ true
+      → ((properties_of x).s || (properties_of z).s) ≡ true
       → Inside checks (keys x) → (HasOne (row (bare assets) z).sat → HasOne (row (bare assets) x).sat) → Covered checker own checks
       → IsEmpty (Sats assets z checker)
   no_other x z checks checker own f g apart among e inside free c v q =
       let h = none_of checker own (keys x) (keys z) checks inside apart among c in
       clash assets checker x z f g h e (free (freed assets checker z g h v q)) (v, q)
 
-  no_second : (x z : Tree) (checks : Pairs) (checker : Checker) → Fits x → Fits z → Disjoint (keys x) (keys z) → ((mall_of x).s || (mall_of z).s) ≡ true
+  no_second : (x z : Tree) (checks : Pairs) (checker : Checker) → Fits x → Fits z → Disjoint (keys x) (keys z) → ((properties_of x).s || (properties_of z).s) ≡ true
       → Inside checks (keys x) → (HasOne (row (bare assets) z).sat → HasOne (row (bare assets) x).sat) → Covered checker (keys x ++ keys z) checks
       → IsEmpty (Sats assets z checker)
   no_second x z checks checker f g apart e = no_other x z checks checker _ f g apart (among_right (keys x) (keys z)) e
 
-  no_first : (x z : Tree) (checks : Pairs) (checker : Checker) → Fits x → Fits z → Disjoint (keys x) (keys z) → ((mall_of x).s || (mall_of z).s) ≡ true
+  no_first : (x z : Tree) (checks : Pairs) (checker : Checker) → Fits x → Fits z → Disjoint (keys x) (keys z) → ((properties_of x).s || (properties_of z).s) ≡ true
       → Inside checks (keys z) → (HasOne (row (bare assets) x).sat → HasOne (row (bare assets) z).sat) → Covered checker (keys x ++ keys z) checks
       → IsEmpty (Sats assets x checker)
   no_first x z checks checker f g apart e =
-      no_other z x checks checker _ g f (turned (keys x) (keys z) apart) (among_left (keys x) (keys z)) (or_turned (mall_of z).s (mall_of x).s ∙ e)
+      no_other z x checks checker _ g f (turned (keys x) (keys z) apart) (among_left (keys x) (keys z)) (or_turned (properties_of z).s (properties_of x).s ∙ e)
 
-  free_other : (t : Tree) → Fits t → (mall_of t).e ≡ true → HasOne (row (bare assets) t).dsat
+  free_other : (t : Tree) → Fits t → (properties_of t).e ≡ true → HasOne (row (bare assets) t).dsat
   free_other t f e = free_dsat (bare assets) t f.writable f.safe e
 
   pub or_b_first : (x z : Tree) (p q : Pairs) (w above below : Stack) → Fits (two kind.OrB x z) → w ≡ above ++ below →
@@ -231,10 +231,10 @@ module _ (assets : Assets) where
       (HasOne (Either (Both (row (bare assets) z).dsat (row (bare assets) x).sat) (Both (row (bare assets) z).sat (row (bare assets) x).dsat))
       → Both (row (bare assets) z).dsat (row (bare assets) x).sat w) →
       Sole (keys x ++ keys z) (p ++ q) (Sats assets (two kind.OrB x z)) w
-  unfolding mall_rows
+  unfolding malleability_rows
   or_b_first x z p q w above below f e i j inside free =
       let t = fit_two kind.OrB x z f in
-      let es = and_parts (mall_of x).e (mall_of z).e f.safe.2.0 in
+      let es = and_parts (properties_of x).e (properties_of z).e f.safe.2.0 in
       let no : (checker : Checker) → Covered checker (keys x ++ keys z) (p ++ q) → IsEmpty (Sats assets z checker) =
       λ checker. no_second x z (p ++ q) checker t.0 t.1 t.2 f.safe.2.1.0 (inside_all (keys x) p q i.inside inside)
       (λ one. let b = one_both _ _ one (free_other x t.0 es.0) in let g = free (b.0, inr b.1) in (g.1, g.3)) in
@@ -247,10 +247,10 @@ module _ (assets : Assets) where
       (HasOne (Either (Both (row (bare assets) z).dsat (row (bare assets) x).sat) (Both (row (bare assets) z).sat (row (bare assets) x).dsat))
       → Both (row (bare assets) z).sat (row (bare assets) x).dsat w) →
       Sole (keys x ++ keys z) (p ++ q) (Sats assets (two kind.OrB x z)) w
-  unfolding mall_rows
+  unfolding malleability_rows
   or_b_second x z p q w above below f e i j inside free =
       let t = fit_two kind.OrB x z f in
-      let es = and_parts (mall_of x).e (mall_of z).e f.safe.2.0 in
+      let es = and_parts (properties_of x).e (properties_of z).e f.safe.2.0 in
       let no : (checker : Checker) → Covered checker (keys x ++ keys z) (p ++ q) → IsEmpty (Sats assets x checker) =
       λ checker. no_first x z (p ++ q) checker t.0 t.1 t.2 f.safe.2.1.0 (inside_all (keys z) p q inside j.inside)
       (λ one. let b = one_both _ _ (free_other z t.1 es.1) one in let g = free (b.0, inl b.1) in (g.0, g.2)) in
@@ -261,7 +261,7 @@ module _ (assets : Assets) where
       (λ checker c v r. no checker c r.1 r.3)
 
   -- `or_c` and `or_d`
-  pub or_first : (x z : Tree) (p : Pairs) (w : Stack) → Fits x → Fits z → Disjoint (keys x) (keys z) → (mall_of x).e ≡ true → ((mall_of x).s || (mall_of z).s) ≡ true →
+  pub or_first : (x z : Tree) (p : Pairs) (w : Stack) → Fits x → Fits z → Disjoint (keys x) (keys z) → (properties_of x).e ≡ true → ((properties_of x).s || (properties_of z).s) ≡ true →
       Sole (keys x) p (Sats assets x) w →
       (HasOne (Either (row (bare assets) x).sat (Both (row (bare assets) z).sat (row (bare assets) x).dsat)) → (row (bare assets) x).sat w) →
       Sole (keys x ++ keys z) p (λ checker. Either (Sats assets x checker) (Both (Sats assets z checker) (Dsats assets x checker))) w
@@ -273,8 +273,8 @@ module _ (assets : Assets) where
       (λ one. let b = one_both _ _ one (free_other x f e) in (w, free (b.0, inr b.1)))
       c r.0 r.2)
 
-  pub or_second : (x z : Tree) (p q : Pairs) (w above below : Stack) → Fits x → Fits z → Disjoint (keys x) (keys z) → (mall_of x).e ≡ true
-      → ((mall_of x).s || (mall_of z).s) ≡ true → w ≡ above ++ below →
+  pub or_second : (x z : Tree) (p q : Pairs) (w above below : Stack) → Fits x → Fits z → Disjoint (keys x) (keys z) → (properties_of x).e ≡ true
+      → ((properties_of x).s || (properties_of z).s) ≡ true → w ≡ above ++ below →
       Sole (keys x) p (Dsats assets x) above → Sole (keys z) q (Sats assets z) below → Inside p (keys z) →
       (HasOne (Either (row (bare assets) x).sat (Both (row (bare assets) z).sat (row (bare assets) x).dsat)) → Both (row (bare assets) z).sat (row (bare assets) x).dsat w) →
       Sole (keys x ++ keys z) (p ++ q) (λ checker. Either (Sats assets x checker) (Both (Sats assets z checker) (Dsats assets x checker))) w
@@ -290,7 +290,7 @@ module _ (assets : Assets) where
       Sole (keys x) p (Sats assets x) below →
       (HasOne (Either (Both (row (bare assets) x).sat (Is ONE)) (Both (row (bare assets) z).sat (Is EMPTY))) → Both (row (bare assets) x).sat (Is ONE) w) →
       Sole (keys x ++ keys z) p (Sats assets (two kind.OrI x z)) w
-  unfolding mall_rows
+  unfolding malleability_rows
   or_i_first x z p w above below f e one i free =
       let t = fit_two kind.OrI x z f in
       first_sole (keys x ++ keys z) p (λ checker. Both (Sats assets x checker) (Is ONE)) _ w
@@ -305,7 +305,7 @@ module _ (assets : Assets) where
       Sole (keys z) p (Sats assets z) below →
       (HasOne (Either (Both (row (bare assets) x).sat (Is ONE)) (Both (row (bare assets) z).sat (Is EMPTY))) → Both (row (bare assets) z).sat (Is EMPTY) w) →
       Sole (keys x ++ keys z) p (Sats assets (two kind.OrI x z)) w
-  unfolding mall_rows
+  unfolding malleability_rows
   or_i_second x z p w above below f e empty i free =
       let t = fit_two kind.OrI x z f in
       second_sole (keys x ++ keys z) p _ (λ checker. Both (Sats assets z checker) (Is EMPTY)) w
@@ -321,7 +321,7 @@ module _ (assets : Assets) where
       (HasOne (Either (Both (row (bare assets) y).sat (row (bare assets) x).sat) (Both (row (bare assets) z).sat (row (bare assets) x).dsat))
       → Both (row (bare assets) y).sat (row (bare assets) x).sat w) →
       Sole (keys x ++ keys y ++ keys z) (p ++ q) (Sats assets (and_or x y z)) w
-  unfolding mall_rows
+  unfolding malleability_rows
   and_or_first x y z p q w above below f e i j free =
       let t = fit_and_or x y z f in
       let both = both_sole (keys x) (keys y) p q (Sats assets x) (Sats assets y) w above below t.3 i j e in
@@ -331,8 +331,8 @@ module _ (assets : Assets) where
       let h = none_of checker (keys x ++ keys y ++ keys z) (keys x ++ keys y) (keys z) (p ++ q) both.inside t.4 (among_right (keys x ++ keys y) (keys z)) c in
       let b = one_both _ _ (freed assets checker z t.2 h r.0 r.2) (free_other x t.0 f.safe.3.0) in
       let g = free (b.0, inr b.1) in
-      elim (or_cases ((mall_of x).s || (mall_of y).s) (mall_of z).s f.safe.3.1.0) [
-        | inl s ↦ elim (or_cases (mall_of x).s (mall_of y).s s) [ inl a ↦ not_free assets x t.0 a g.1 g.3 | inr a ↦ not_free assets y t.1 a g.0 g.2 ]
+      elim (or_cases ((properties_of x).s || (properties_of y).s) (properties_of z).s f.safe.3.1.0) [
+        | inl s ↦ elim (or_cases (properties_of x).s (properties_of y).s s) [ inl a ↦ not_free assets x t.0 a g.1 g.3 | inr a ↦ not_free assets y t.1 a g.0 g.2 ]
         | inr s ↦ not_sat assets checker z t.2 h s r.0 r.2
       ])
 
@@ -341,7 +341,7 @@ module _ (assets : Assets) where
       (HasOne (Either (Both (row (bare assets) y).sat (row (bare assets) x).sat) (Both (row (bare assets) z).sat (row (bare assets) x).dsat))
       → Both (row (bare assets) z).sat (row (bare assets) x).dsat w) →
       Sole (keys x ++ keys y ++ keys z) (p ++ q) (Sats assets (and_or x y z)) w
-  unfolding mall_rows
+  unfolding malleability_rows
   and_or_second x y z p q w above below f e i j inside free =
       let t = fit_and_or x y z f in
       let apart : Disjoint (keys x) (keys z) = λ key k l. t.4 key (Contains-append_left (keys x) (keys y) key k) l in
@@ -360,7 +360,7 @@ module _ (assets : Assets) where
       let h_y : NoneOf checker (keys y) = λ key sig k. h key sig (Contains-append_right (keys x) (keys y) key k) in
       let b = one_both _ _ (freed assets checker y t.1 h_y r.0 r.2) (freed assets checker x t.0 h_x r.1 r.3) in
       let g = free (b.0, inl b.1) in
-      elim (or_cases ((mall_of x).s || (mall_of y).s) (mall_of z).s f.safe.3.1.0) [
-        | inl s ↦ elim (or_cases (mall_of x).s (mall_of y).s s) [ inl a ↦ not_sat assets checker x t.0 h_x a r.1 r.3 | inr a ↦ not_sat assets checker y t.1 h_y a r.0 r.2 ]
+      elim (or_cases ((properties_of x).s || (properties_of y).s) (properties_of z).s f.safe.3.1.0) [
+        | inl s ↦ elim (or_cases (properties_of x).s (properties_of y).s s) [ inl a ↦ not_sat assets checker x t.0 h_x a r.1 r.3 | inr a ↦ not_sat assets checker y t.1 h_y a r.0 r.2 ]
         | inr s ↦ not_free assets z t.2 s g.0 g.2
       ])

@@ -9,8 +9,8 @@ use Rattle.def_tree.specs.declared.Wrapper.TheVariants as wrapper
 use Rattle.def_tree.specs.Tree.{Tree, Trees, and_or, two, thresh, wrap, none, more}
 use Rattle.def_tree.specs.Range.{IsWritable, AreWritable}
 use Rattle.def_types.specs.Malleable.{count_not_s}
-use Rattle.def_types.specs.Typed.{IsTyped, AreTyped, mall_of, malls_of, IsMallTyped, AreMallTyped}
-use Rattle.def_types.proofs.Rows.{mall_rows}
+use Rattle.def_types.specs.Typed.{IsTyped, AreTyped, properties_of, all_properties_of, IsMalleabilityTyped, AreMalleabilityTyped}
+use Rattle.def_types.proofs.Rows.{malleability_rows}
 use Rattle.def_assets.specs.Assets.{Assets, AreAssets}
 use Rattle.def_sane.specs.Keys.{AreDistinct, keys, keys_of_all}
 use Rattle.def_satisfaction.specs.StackSet.{StackSet, Is, Both}
@@ -131,11 +131,11 @@ module _ (assets : Assets) (are : AreAssets assets) where
       inr (inr (u.0, u.1, r.1 ++ u.2, inr (u.2, r.1, u.3, r.3, refl), within_right _ _ _ u.4))
 
   -- a satisfied child with s is dissatisfied instead, where more are satisfied than there are without s
-  down_here : (x : Tree) (xs : Trees) → IsWritable x → IsTyped x → IsMallTyped x → (mall_of x).e ≡ true → (n : ℕ) (w : Stack)
+  down_here : (x : Tree) (xs : Trees) → IsWritable x → IsTyped x → IsMalleabilityTyped x → (properties_of x).e ≡ true → (n : ℕ) (w : Stack)
       (r : (m : ℕ) × (n ≡ suc m) × Both (parts (canonical assets) xs m) (sat x) w) → let g = r.2 in
       Apart (checks assets x g.1 g.3) (parts_checks assets xs r.0 g.0 g.2) →
-      (suc (count_not_s (malls_of xs)) ≤ r.0 → FewerParts xs r.0 (parts_checks assets xs r.0 g.0 g.2)) →
-      (s : Bool) → (mall_of x).s ≡ s → suc ((if s then 0 else 1) + count_not_s (malls_of xs)) ≤ n →
+      (suc (count_not_s (all_properties_of xs)) ≤ r.0 → FewerParts xs r.0 (parts_checks assets xs r.0 g.0 g.2)) →
+      (s : Bool) → (properties_of x).s ≡ s → suc ((if s then 0 else 1) + count_not_s (all_properties_of xs)) ≤ n →
       FewerParts (more x xs) n (checks assets x g.1 g.3 ++ parts_checks assets xs r.0 g.0 g.2)
   down_here x xs k t m e n w r apart others true s many =
       let g = r.2 in
@@ -154,23 +154,23 @@ module _ (assets : Assets) (are : AreAssets assets) where
       let i = others (omega (arith, many, r.1)) in
       (r.0, r.1, g.1 ++ i.2, inl (i.0, i.1, (i.2, g.1, i.3, g.3, refl)), fewer_right _ _ _ i.4 apart)
 
-  down : (xs : Trees) → AreWritable xs → AreTyped xs → AreMallTyped xs → list_all (λ x. x.e) (malls_of xs) ≡ true → AreDistinct (keys_of_all xs) →
-      (n : ℕ) (w : Stack) (r : parts (canonical assets) xs n w) → suc (count_not_s (malls_of xs)) ≤ n → FewerParts xs n (parts_checks assets xs n w r)
+  down : (xs : Trees) → AreWritable xs → AreTyped xs → AreMalleabilityTyped xs → list_all (λ x. x.e) (all_properties_of xs) ≡ true → AreDistinct (keys_of_all xs) →
+      (n : ℕ) (w : Stack) (r : parts (canonical assets) xs n w) → suc (count_not_s (all_properties_of xs)) ≤ n → FewerParts xs n (parts_checks assets xs n w r)
   down none k t m e d n w r many = absurd (omega (arith, r.0, many))
   down (more x xs) k t m e d n w (inl r) many =
       let g = r.2 in
-      let f = and_parts (mall_of x).e (list_all (λ y. y.e) (malls_of xs)) e in
+      let f = and_parts (properties_of x).e (list_all (λ y. y.e) (all_properties_of xs)) e in
       let p = distinct_parts (keys x) (keys_of_all xs) d in
       down_here x xs k.0 t.0 m.0 f.0 n w r
       (apart_inside _ _ (keys x) (keys_of_all xs) (told assets x k.0 t.0 g.1 g.3).inside (told_parts assets xs k.1 t.1 r.0 g.0 g.2).inside p.2)
-      (down xs k.1 t.1 m.1 f.1 p.1 r.0 g.0 g.2) (mall_of x).s refl many
+      (down xs k.1 t.1 m.1 f.1 p.1 r.0 g.0 g.2) (properties_of x).s refl many
   down (more x xs) k t m e d n w (inr r) many =
-      let f = and_parts (mall_of x).e (list_all (λ y. y.e) (malls_of xs)) e in
+      let f = and_parts (properties_of x).e (list_all (λ y. y.e) (all_properties_of xs)) e in
       let p = distinct_parts (keys x) (keys_of_all xs) d in
-      let i = down xs k.1 t.1 m.1 f.1 p.1 n r.0 r.2 (fewer_others (mall_of x).s many) in
+      let i = down xs k.1 t.1 m.1 f.1 p.1 n r.0 r.2 (fewer_others (properties_of x).s many) in
       (i.0, i.1, r.1 ++ i.2, inr (i.2, r.1, i.3, r.3, refl), fewer_right _ _ _ i.4 (apart_none _ _ (dsat_quiet assets x r.1 r.3)))
     where
-      fewer_others : (s : Bool) → suc ((if s then 0 else 1) + count_not_s (malls_of xs)) ≤ n → suc (count_not_s (malls_of xs)) ≤ n
+      fewer_others : (s : Bool) → suc ((if s then 0 else 1) + count_not_s (all_properties_of xs)) ≤ n → suc (count_not_s (all_properties_of xs)) ≤ n
       fewer_others true h = omega (arith, h)
       fewer_others false h = omega (arith, h)
 
@@ -197,8 +197,8 @@ module _ (assets : Assets) (are : AreAssets assets) where
   under_item x item w r (inr b) = inr (r.1 ++ b.0, (b.0, r.1, b.1, r.3, refl), b.2)
 
   -- at a threshold: where one more could be satisfied with no pair more, one with s is dissatisfied
-  at_threshold : (xs : Trees) → AreWritable xs → AreTyped xs → AreMallTyped xs → list_all (λ x. x.e) (malls_of xs) ≡ true → AreDistinct (keys_of_all xs) →
-      (n : ℕ) (w : Stack) (r : parts (canonical assets) xs n w) → count_not_s (malls_of xs) ≤ n → Outcome xs n w (parts_checks assets xs n w r) →
+  at_threshold : (xs : Trees) → AreWritable xs → AreTyped xs → AreMalleabilityTyped xs → list_all (λ x. x.e) (all_properties_of xs) ≡ true → AreDistinct (keys_of_all xs) →
+      (n : ℕ) (w : Stack) (r : parts (canonical assets) xs n w) → count_not_s (all_properties_of xs) ≤ n → Outcome xs n w (parts_checks assets xs n w r) →
       TightParts assets xs n w ⊎ LesserParts xs n (parts_checks assets xs n w r)
   at_threshold xs k t m e d n w r most (inl ts) = inl ts
   at_threshold xs k t m e d n w r most (inr (inl b)) = inr b
@@ -208,10 +208,10 @@ module _ (assets : Assets) (are : AreAssets assets) where
       inr (subst (λ j. LesserParts xs j (parts_checks assets xs n w r)) same (i.2, i.3, fewer_within _ _ _ i.4 u.4))
 
   mutual
-    unfolding mall_rows
+    unfolding malleability_rows
 
     -- a canonical satisfaction is tight or beaten
-    pub beats : (tree : Tree) → IsWritable tree → IsTyped tree → IsMallTyped tree → AreDistinct (keys tree) →
+    pub beats : (tree : Tree) → IsWritable tree → IsTyped tree → IsMalleabilityTyped tree → AreDistinct (keys tree) →
         (w : Stack) (r : sat tree w) → TightSat assets tree w ⊎ Lesser tree (checks assets tree w r)
     beats (and_or x y z) k t m d w (inl r) =
         let p = distinct_parts (keys x ++ keys y) (keys z) d in
@@ -263,13 +263,13 @@ module _ (assets : Assets) (are : AreAssets assets) where
         (lower_satisfied x z w r (beats z k.1 t.1 m.1 q.1 r.0 r.2)) (λ b. (b.0, inr b.1, b.2))
         (both_free _ _ _ _ w r.0 r.1 r.4 (told assets z k.1 t.1 r.0 r.2).free (inl (free_dsat assets x r.1 r.3))) (λ e. e))
     beats (thresh n xs) k t m d w r =
-        let most = leb-true (count_not_s (malls_of xs)) n m.1.1.0 in
+        let most = leb-true (count_not_s (all_properties_of xs)) n m.1.1.0 in
         at_threshold xs k.2 t.0 m.0 m.1.0 d n w r most (beats_parts xs k.2 t.0 m.0 d n w r)
     beats (wrap wrapper.D x) k t m d w r = under_item x ONE w r (beats x k t.0 m.0 d r.0 r.2)
     beats (wrap letter x) k t m d w r = beats x k t.0 m.0 d w r
     beats tree k t m d w r = inl r
 
-    beats_parts : (xs : Trees) → AreWritable xs → AreTyped xs → AreMallTyped xs → AreDistinct (keys_of_all xs) →
+    beats_parts : (xs : Trees) → AreWritable xs → AreTyped xs → AreMalleabilityTyped xs → AreDistinct (keys_of_all xs) →
         (n : ℕ) (w : Stack) (r : parts (canonical assets) xs n w) → Outcome xs n w (parts_checks assets xs n w r)
     beats_parts none k t m d n w r = inl r
     beats_parts (more x xs) k t m d n w (inl r) =

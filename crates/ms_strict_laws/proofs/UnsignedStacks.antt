@@ -3,7 +3,7 @@ use Rattle.std.proofs.Common.{◌≡◌, true, refl, sym, ◌∙◌}
 use Rattle.std.proofs.lemmas.Bool.{false≢true}
 use Rattle.def_machine.specs.Stacks.{Stack}
 use Rattle.def_tree.specs.Tree.{Tree}
-use Rattle.def_types.specs.Typed.{IsTyped, mall_of}
+use Rattle.def_types.specs.Typed.{IsTyped, properties_of}
 use Rattle.def_assets.specs.Assets.{Assets, unsigned}
 use Rattle.def_sane.specs.Keys.{keys}
 use Rattle.def_satisfaction.specs.Satisfaction.{canonical}
@@ -27,7 +27,7 @@ free_within assets tree = let i = row_within _ _ (free_is_wider assets) tree in 
 pub signed_dsat : (assets : Assets) (tree : Tree) → Within (free_row assets tree).dsat (signed_row assets tree).dsat
 signed_dsat assets tree = let i = row_within _ _ (free_is_wider assets) tree in i.dsat
 
-pub signs : (assets : Assets) (tree : Tree) → IsTyped tree → (mall_of tree).s ≡ true → (w : Stack) → (free_row assets tree).sat w → ⊥
+pub signs : (assets : Assets) (tree : Tree) → IsTyped tree → (properties_of tree).s ≡ true → (w : Stack) → (free_row assets tree).sat w → ⊥
 signs assets tree t s w h =
     let n = needs (canonical (unsigned assets)) tree t (no_table (canonical (unsigned assets)) (keys tree) refl) in
     n.sat s w h

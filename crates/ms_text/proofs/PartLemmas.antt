@@ -1,7 +1,7 @@
 -- Trees that were read, and how large they are.
 use Rattle.std.proofs.Common.{◌≡◌, ℕ, ◌+◌, ◌<◌, ◌≤◌, List, [], ◌∷◌, ◌++◌, Result, Ok, Err, IfOk, refl, ap, sym, subst, arith}
 use Rattle.def_tree.specs.Tree as model
-use Rattle.def_tree.specs.Size.{measure, measure_of, depth, depth_of}
+use Rattle.def_tree.specs.InRange.{measure, measure_of, depth, depth_of}
 use Rattle.def_tree.specs.Range.{IsWritable, AreWritable, count}
 use Rattle.def_text.specs.declared.TextFault.{TextFault}
 use Rattle.def_text.specs.Refusal.{MOST_WRITTEN_DEPTH}

@@ -5,7 +5,7 @@ use Rattle.std.specs.Prelude.{if◌then◌else◌}
 use Rattle.std.specs.Str.{byte}
 use Rattle.std.proofs.lemmas.List.{take_all, length-take}
 use Rattle.def_tree.specs.Tree.{Tree, just_0}
-use Rattle.def_tree.specs.Size.{measure, depth}
+use Rattle.def_tree.specs.InRange.{measure, depth}
 use Rattle.def_tree.specs.Range.{IsWritable}
 use Rattle.def_text.specs.Token.{Token}
 use Rattle.def_text.proofs.Outcomes.{outcome-letter}

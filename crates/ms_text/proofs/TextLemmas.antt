@@ -5,7 +5,7 @@ use Rattle.std.proofs.lemmas.Str.{IsCharBoundary-start}
 use Rattle.def_script.specs.Bytes.{Bytes}
 use Rattle.def_tree.specs.Tree.{Tree}
 use Rattle.def_tree.specs.Size.{nodes}
-use Rattle.def_tree.specs.Range.{IsInRange}
+use Rattle.def_tree.specs.InRange.{IsInRange}
 use Rattle.def_text.specs.declared.TextFault.{TextFault}
 use Rattle.def_text.specs.declared.TextFault.TheVariants.{TooLong, Syntax, TooDeep, Memory}
 use Rattle.def_text.specs.Token.{tokens}

@@ -1,6 +1,7 @@
 //! What is written while a text is read: nodes, and their offsets.
 ghost use Rattle.std.specs.Prelude.{◌≡◌, ◌<◌, ◌^◌, [], ◌∷◌, ◌++◌, IfOk, IfErr, OnOk};
-ghost use Rattle.def_tree.specs.Range.{IsInRange, IsWritable};
+ghost use Rattle.def_tree.specs.Range.{IsWritable};
+ghost use Rattle.def_tree.specs.InRange.{IsInRange};
 ghost use Rattle.def_tree.specs.Tree as model;
 ghost use Rattle.def_text.specs.Letter.{letter_tree};
 ghost use Rattle.def_text.specs.Scaffolding.Reader.{leaf_offsets, pair_tree, pair_offsets, offsets_behind};

@@ -1,7 +1,7 @@
 //! The reading of expressions: one method for each group of forms. The depth counts the names and letters that enclose a
 //! place.
 ghost use Rattle.std.specs.Prelude.{◌≡◌, ◌+◌, ◌<◌, ◌≤◌, true, length, is_some, IfOk};
-ghost use Rattle.def_tree.specs.Range.{IsInRange};
+ghost use Rattle.def_tree.specs.InRange.{IsInRange};
 ghost use Rattle.def_tree.specs.Tree as model;
 ghost use Rattle.def_text.specs.Refusal.{MOST_WRITTEN_DEPTH};
 ghost use Rattle.def_text.specs.Scaffolding.Reader as machine;

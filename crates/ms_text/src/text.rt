@@ -1,6 +1,6 @@
 //! Reading a text: its tree with the offsets of the nodes, or the first place that is wrong.
 ghost use Rattle.std.specs.Prelude.{◌≢◌, ◌≡◌, ◌<◌, ◌≤◌, length, slice_index, IsUtf8, IfOk, IfErr};
-ghost use Rattle.def_tree.specs.Range.{IsInRange};
+ghost use Rattle.def_tree.specs.InRange.{IsInRange};
 ghost use Rattle.def_tree.specs.Size.{nodes};
 ghost use Rattle.def_text.specs.Refusal.{MOST_BYTES, TextReads, TextRefusal};
 ghost use Rattle.ms_tree.specs.Shape.{shape};

@@ -8,7 +8,7 @@ ghost use Rattle.ms_hash.specs.Value.{bytes_of, kind_of};
 ghost use Rattle.ms_text.specs.Scaffolding.Words.{DecodesTo, digits_after};
 
 use def_tree::HashKind;
-use ms_hash::HashVal;
+use ms_hash::HashValue;
 use ms_tree::Key;
 
 /// The number that a word spells: `0`, or one to ten digits without a leading zero. Takes no memory.
@@ -73,15 +73,15 @@ fn digest<const N: usize>(kind: HashKind, word: &[u8]) -> Option<[u8; N]>
 }
 
 /// The hash value that a word spells.
-pub fn hash_spelled(kind: HashKind, word: &[u8]) -> Option<HashVal>
+pub fn hash_spelled(kind: HashKind, word: &[u8]) -> Option<HashValue>
     ensures kind { IfSome result (λ value. kind_of value ≡ kind) }
     ensures value { option_map bytes_of result ≡ hash_of kind word.now }
     ensures writable { IfSome result (λ value. IsDigest kind (bytes_of value)) }
 {
     match kind {
-        HashKind::Sha256 => Some(HashVal::Sha256(digest(kind, word)?)),
-        HashKind::Hash256 => Some(HashVal::Hash256(digest(kind, word)?)),
-        HashKind::Ripemd160 => Some(HashVal::Ripemd160(digest(kind, word)?)),
-        HashKind::Hash160 => Some(HashVal::Hash160(digest(kind, word)?)),
+        HashKind::Sha256 => Some(HashValue::Sha256(digest(kind, word)?)),
+        HashKind::Hash256 => Some(HashValue::Hash256(digest(kind, word)?)),
+        HashKind::Ripemd160 => Some(HashValue::Ripemd160(digest(kind, word)?)),
+        HashKind::Hash160 => Some(HashValue::Hash160(digest(kind, word)?)),
     }
 }

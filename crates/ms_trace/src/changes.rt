@@ -117,8 +117,8 @@ fn push_alt(report: &mut String, op: Op, run: &SteppedRun) -> Result<(), AllocEr
         | Op::CheckSigVerify
         | Op::CheckMultiSig
         | Op::CheckMultiSigVerify
-        | Op::Cltv
-        | Op::Csv => Ok(()),
+        | Op::CheckLockTimeVerify
+        | Op::CheckSequenceVerify => Ok(()),
     }
 }
 
@@ -151,8 +151,8 @@ fn branch_words(op: Op, live: bool) -> &'static str
         | Op::CheckSigVerify
         | Op::CheckMultiSig
         | Op::CheckMultiSigVerify
-        | Op::Cltv
-        | Op::Csv => "",
+        | Op::CheckLockTimeVerify
+        | Op::CheckSequenceVerify => "",
     }
 }
 

@@ -47,7 +47,6 @@ fn push_listed(
 {
     report.push_str("at ")?;
     push_number(report, offset)?;
-    report.push_str(" ")?;
     push_instruction(report, instr)?;
     push_line_end(report, places, count)
 }

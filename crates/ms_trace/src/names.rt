@@ -35,8 +35,8 @@ pub fn op_name(op: Op) -> &'static str
         Op::CheckSigVerify => "OP_CHECKSIGVERIFY",
         Op::CheckMultiSig => "OP_CHECKMULTISIG",
         Op::CheckMultiSigVerify => "OP_CHECKMULTISIGVERIFY",
-        Op::Cltv => "OP_CHECKLOCKTIMEVERIFY",
-        Op::Csv => "OP_CHECKSEQUENCEVERIFY",
+        Op::CheckLockTimeVerify => "OP_CHECKLOCKTIMEVERIFY",
+        Op::CheckSequenceVerify => "OP_CHECKSEQUENCEVERIFY",
     }
 }
 
@@ -56,8 +56,8 @@ pub fn opcode_puts(op: Op, before: usize, after: usize) -> usize
         | Op::EqualVerify
         | Op::CheckSigVerify
         | Op::CheckMultiSigVerify
-        | Op::Cltv
-        | Op::Csv => 0,
+        | Op::CheckLockTimeVerify
+        | Op::CheckSequenceVerify => 0,
         Op::FromAltStack
         | Op::Dup
         | Op::Size

@@ -57,9 +57,9 @@ fn digit(number: u8) -> char
     char::from(b"0123456789abcdef"[number as usize])
 }
 
-/// Adds what an instruction is called: a push by the bytes that it pushes, an opcode by its name.
+/// Adds a space and what an instruction is called: a push by the bytes that it pushes, an opcode by its name.
 pub fn push_instruction(report: &mut String, instr: InstrRef<'_>) -> Result<(), AllocError>
-    ensures { OnOk result (string_bytes report.new ≡ string_bytes report.old ++ instruction_text (item_of instr.entry) 0) }
+    ensures { OnOk result (string_bytes report.new ≡ string_bytes report.old ++ (codes " " ++ instruction_text (item_of instr.entry) 0)) }
 {
     match instr {
         InstrRef::Push { bytes, .. } => push_push(report, bytes),
@@ -67,15 +67,18 @@ pub fn push_instruction(report: &mut String, instr: InstrRef<'_>) -> Result<(), 
             let bytes = num_encode(number);
             push_push(report, bytes.as_slice())
         }
-        InstrRef::Code(op) => report.push_str(op_name(op)),
+        InstrRef::Code(op) => {
+            report.push(' ')?;
+            report.push_str(op_name(op))
+        }
     }
 }
 
-/// Adds what a push is called.
+/// Adds a space and what a push is called.
 fn push_push(report: &mut String, bytes: &[u8]) -> Result<(), AllocError>
-    ensures { OnOk result (string_bytes report.new ≡ string_bytes report.old ++ (codes "push " ++ digits bytes.now)) }
+    ensures { OnOk result (string_bytes report.new ≡ string_bytes report.old ++ (codes " push " ++ digits bytes.now)) }
 {
-    report.push_str("push ")?;
+    report.push_str(" push ")?;
     push_digits(report, bytes)
 }
 
@@ -87,5 +90,5 @@ pub fn push_line_end(report: &mut String, places: &[usize], place: usize) -> Res
         report.push_str(" node ")?;
         push_number(report, *node)?;
     }
-    report.push_str("\n")
+    report.push('\n')
 }

@@ -123,7 +123,6 @@ fn push_head(
 {
     report.push_str(kind)?;
     push_number(report, offset)?;
-    report.push_str(" ")?;
     push_instruction(report, instr)
 }
 

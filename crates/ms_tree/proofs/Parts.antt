@@ -1,8 +1,9 @@
 -- The children of a tree that is in range are in range.
 use Rattle.std.proofs.Common.{◌≡◌, ℕ, zero, suc, ◌<◌, ◌≤◌, List, [], ◌∷◌, length, get_or, All, sym, subst, arith}
 use Rattle.def_tree.specs.Tree as model
-use Rattle.def_tree.specs.Range.{IsWritable, AreWritable, IsInRange}
-use Rattle.def_tree.specs.Size.{nodes, nodes_of, measure, measure_of, depth, depth_of}
+use Rattle.def_tree.specs.Range.{IsWritable, AreWritable}
+use Rattle.def_tree.specs.InRange.{IsInRange, measure, measure_of, depth, depth_of}
+use Rattle.def_tree.specs.Size.{nodes, nodes_of}
 use Rattle.ms_tree.specs.declared.tree.Tree.{Tree}
 use Rattle.ms_tree.specs.declared.tree.View.{View}
 use Rattle.ms_tree.specs.declared.tree.View.TheVariants as view

@@ -1,7 +1,8 @@
 -- What a view shows.
 use Rattle.std.specs.Prelude.{◌≡◌, ◌<◌, length, All}
 use Rattle.def_tree.specs.Tree as model
-use Rattle.def_tree.specs.Range.{MOST_MEASURE, TEN_DIGITS, IsKey, IsInRange}
+use Rattle.def_tree.specs.Range.{TEN_DIGITS, IsKey}
+use Rattle.def_tree.specs.InRange.{MOST_MEASURE, IsInRange}
 use Rattle.ms_tree.specs.declared.tree.View.{View}
 use Rattle.ms_tree.specs.declared.tree.View.TheVariants as view
 use Rattle.ms_tree.specs.Shape.{leaf_shape, shape, shapes}

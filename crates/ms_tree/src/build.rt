@@ -2,7 +2,7 @@
 //! its parts. Want of memory is its only refusal; a list that was handed in is given up with it.
 ghost use Rattle.std.specs.Prelude.{◌≡◌, IfOk};
 ghost use Rattle.def_tree.specs.Tree as tree;
-ghost use Rattle.def_tree.specs.Range.{IsInRange};
+ghost use Rattle.def_tree.specs.InRange.{IsInRange};
 ghost use Rattle.ms_tree.specs.Shape.{shape, shapes, leaf_shape};
 
 use crate::key::Key;

@@ -6,7 +6,7 @@
 pub use build::{and_or, leaf, multi, thresh, two, wrap};
 pub use def_tree::{Two, Wrapper};
 pub use key::Key;
-pub use ms_hash::{HashKind, HashVal};
+pub use ms_hash::{HashKind, HashValue};
 pub use tree::{Leaf, Node, Tree, View};
 
 mod build;

@@ -27,8 +27,8 @@ macro_rules! fragment_rows {
                 [PkH "pk_h" 1 (Dup Hash160) hash160 (EqualVerify)]
             }
             locks {
-                [Older "older" 1 ((OlderRange)) () (Csv)]
-                [After "after" 1 ((AfterRange)) () (Cltv)]
+                [Older "older" 1 ((OlderRange)) () (CheckSequenceVerify)]
+                [After "after" 1 ((AfterRange)) () (CheckLockTimeVerify)]
             }
             hashes {
                 [Sha256 "sha256" 1 (Size 32 EqualVerify Sha256) (Equal)]

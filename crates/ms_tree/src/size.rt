@@ -1,7 +1,8 @@
 //! The size of a tree, without memory.
 ghost use Rattle.std.specs.Prelude.{◌≡◌, All};
-ghost use Rattle.def_tree.specs.Range.{IsInRange};
+ghost use Rattle.def_tree.specs.InRange.{IsInRange};
 ghost use Rattle.def_tree.specs.Size as size;
+ghost use Rattle.def_tree.specs.InRange as size_there;
 ghost use Rattle.ms_tree.specs.Shape.{shape, shapes};
 ghost use Rattle.ms_tree.specs.Scaffolding.Size.{size_of_trees};
 
@@ -73,7 +74,7 @@ impl Tree<'_> {
     /// How many nodes and keys of `multi` the tree has, at most 131,072. Takes no memory.
     pub fn measure(&self) -> u32
         requires { IsInRange (shape self.now) }
-        ensures { result ≡ size.measure (shape self.now) }
+        ensures { result ≡ size_there.measure (shape self.now) }
     {
         self.size().measure
     }
@@ -81,7 +82,7 @@ impl Tree<'_> {
     /// How many nodes the longest path from the root down has: 1 of a leaf, at most 257. Takes no memory.
     pub fn depth(&self) -> u32
         requires { IsInRange (shape self.now) }
-        ensures { result ≡ size.depth (shape self.now) }
+        ensures { result ≡ size_there.depth (shape self.now) }
     {
         self.size().depth
     }

@@ -1,9 +1,9 @@
 //! Trees, and what is seen of one at its root.
-ghost use Rattle.def_tree.specs.Range.{IsInRange};
+ghost use Rattle.def_tree.specs.InRange.{IsInRange};
 
 use crate::key::Key;
 use def_tree::{Two, Wrapper};
-use ms_hash::HashVal;
+use ms_hash::HashValue;
 
 /// A miniscript expression with its arguments (BIP 379, translation table), without sugar: a reference to its
 /// root, which lies in an arena with all its parts. Contracts see it through `shape`. Calls ask that it is in
@@ -50,7 +50,7 @@ pub enum Leaf {
     /// `after(n)`, with the operand as it is written (BIP 65). Its range is a rule of the types.
     After(u64),
     /// `sha256(h)`, `hash256(h)`, `ripemd160(h)` or `hash160(h)`.
-    Hash(HashVal),
+    Hash(HashValue),
 }
 
 /// What a tree is at its root: a leaf, or a fragment and its parts, in the order of the text.

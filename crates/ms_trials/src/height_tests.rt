@@ -5,7 +5,7 @@ use crate::letters::repeated;
 use crate::samples::tree_of;
 use bumpalo::Bump;
 use ms_height::height;
-use ms_types::corr;
+use ms_types::correctness_of;
 use ms_work::Work;
 use std::alloc::Global;
 use std::test::Fail;
@@ -15,7 +15,7 @@ fn height_of(alloc: Global, form: &str) -> Result<u64, Fail> {
     let arena = Bump::new(alloc);
     let text = tree_of(alloc, &arena, form)?;
     let mut work = Work::new(alloc, text.tree())?;
-    match corr(text.tree()) {
+    match correctness_of(text.tree()) {
         Ok(_) => Ok(height(text.tree(), &mut work)),
         Err(_) => Err("a type")?,
     }

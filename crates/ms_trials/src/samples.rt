@@ -1,7 +1,7 @@
 //! Trees, signatures, items and assets that the tests share.
 ghost use Rattle.std.specs.Prelude.{IfOk};
 ghost use Rattle.def_sane.specs.Unfit.{IsSane};
-ghost use Rattle.def_tree.specs.Range.{IsInRange};
+ghost use Rattle.def_tree.specs.InRange.{IsInRange};
 ghost use Rattle.ms_tree.specs.Shape.{shape};
 
 use crate::letters::{A, B, C, SIG_A, SIG_B, SIG_C, filled};

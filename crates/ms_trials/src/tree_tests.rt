@@ -1,5 +1,5 @@
 //! Tests of sizes of trees, which the programs don't print.
-ghost use Rattle.def_tree.specs.Range.{IsInRange};
+ghost use Rattle.def_tree.specs.InRange.{IsInRange};
 ghost use Rattle.ms_tree.specs.Shape.{shape};
 
 use bumpalo::Bump;

@@ -4,7 +4,7 @@ ghost use Rattle.ms_types.specs.Scaffolding.Children.{and as the_and};
 ghost use Rattle.ms_types.specs.Scaffolding.Signed.{and as and_signed};
 
 use crate::requirements::{may_be_first, may_follow};
-use def_types::{Mall, Ty};
+use def_types::{CorrectnessType, MalleabilityProperties};
 
 /// What is known of the correctness types of the children that were seen.
 #[derive(Clone, Copy)]
@@ -32,7 +32,7 @@ impl Children {
     };
 
     /// One more child behind the others.
-    pub fn and(self, child: Ty) -> Children
+    pub fn and(self, child: CorrectnessType) -> Children
         requires { self.count < 2 ^ 63 }
         ensures { result ≡ the_and self child }
     {
@@ -68,7 +68,7 @@ impl Signed {
     };
 
     /// One more child behind the others.
-    pub fn and(self, child: Mall) -> Signed
+    pub fn and(self, child: MalleabilityProperties) -> Signed
         requires { self.unsigned < 2 ^ 63 }
         ensures { result ≡ and_signed self child }
     {

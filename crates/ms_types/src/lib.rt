@@ -2,9 +2,9 @@
 //! first requirement that is false.
 #![tactic(auto)]
 
-pub use correctness::corr;
-pub use def_types::{Base, Mall, Rule, RuleAt, Ty};
-pub use malleability::mall;
+pub use correctness::correctness_of;
+pub use def_types::{Base, CorrectnessType, MalleabilityProperties, Rule, RuleAt};
+pub use malleability::malleability_of;
 
 mod children;
 mod correctness;

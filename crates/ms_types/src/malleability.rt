@@ -1,10 +1,10 @@
 //! The malleability properties (BIP 379, type system, malleability).
-#![tactic(auto, unfolding(def_types::proofs::Rows::mall_rows))]
+#![tactic(auto, unfolding(def_types::proofs::Rows::malleability_rows))]
 
 ghost use Rattle.std.specs.Prelude.{◌≡◌, ◌<◌, IfErr};
-ghost use Rattle.def_tree.specs.Range.{IsInRange};
+ghost use Rattle.def_tree.specs.InRange.{IsInRange};
 ghost use Rattle.def_tree.specs.Size.{nodes};
-ghost use Rattle.def_types.specs.Malleable.{malleability, mall as the_mall, two_row};
+ghost use Rattle.def_types.specs.Malleable.{malleability, malleability_of as the_malleability_of, two_row};
 ghost use Rattle.ms_tree.specs.Shape.{shape};
 ghost use Rattle.ms_types.specs.Checked.{requirements};
 ghost use Rattle.ms_types.specs.Scaffolding.Signed.{signed};
@@ -12,15 +12,15 @@ ghost use Rattle.ms_types.specs.Scaffolding.Signed.{signed};
 use crate::children::Signed;
 use crate::requirements::require;
 use crate::system::{TypeSystem, typed};
-use def_types::{Mall, Rule, RuleAt};
+use def_types::{MalleabilityProperties, Rule, RuleAt};
 use ms_tree::{Key, Leaf, Tree, Two, Wrapper, fragment_rows};
 
 /// The malleability properties of a tree (BIP 379, type system, malleability), or the first requirement
 /// that is false: by the number of its node, and then in the order of the table. A requirement is asked
 /// of every node. Nodes are numbered from 0, children before parents and left to right.
-pub fn mall(tree: &Tree<'_>) -> Result<Mall, RuleAt>
+pub fn malleability_of(tree: &Tree<'_>) -> Result<MalleabilityProperties, RuleAt>
     requires { IsInRange (shape tree.now) }
-    ensures mall { result ≡ the_mall (shape tree.now) }
+    ensures malleability_of { result ≡ the_malleability_of (shape tree.now) }
     ensures node { IfErr result (λ at. at.node < nodes (shape tree.now)) }
 {
     typed(tree, &mut 0)
@@ -29,14 +29,14 @@ pub fn mall(tree: &Tree<'_>) -> Result<Mall, RuleAt>
 /// The properties that are named, and no others.
 macro_rules! properties {
     ($($property:ident)*) => {
-        Mall {
+        MalleabilityProperties {
             $($property: true,)*
             ..NONE
         }
     };
 }
 
-const NONE: Mall = Mall {
+const NONE: MalleabilityProperties = MalleabilityProperties {
     s: false,
     f: false,
     e: false,
@@ -113,14 +113,14 @@ macro_rules! thresh_arm {
     };
 }
 
-impl TypeSystem for Mall {
+impl TypeSystem for MalleabilityProperties {
     type Children = Signed;
 
     ghost rows = { malleability };
 
     ghost seen = { signed };
 
-    fn of_leaf(leaf: &Leaf) -> Result<Mall, Rule> {
+    fn of_leaf(leaf: &Leaf) -> Result<MalleabilityProperties, Rule> {
         Ok(match leaf {
             Leaf::Zero | Leaf::PkK(_) | Leaf::PkH(_) => properties!(s e),
             Leaf::One | Leaf::Older(_) | Leaf::After(_) => properties!(f),
@@ -128,16 +128,24 @@ impl TypeSystem for Mall {
         })
     }
 
-    fn of_and_or(x: Mall, y: Mall, z: Mall) -> Result<Mall, Rule> {
+    fn of_and_or(
+        x: MalleabilityProperties,
+        y: MalleabilityProperties,
+        z: MalleabilityProperties,
+    ) -> Result<MalleabilityProperties, Rule> {
         fragment_rows!(and_or_arm!(x, y, z));
-        Ok(Mall {
+        Ok(MalleabilityProperties {
             s: z.s && (x.s || y.s),
             f: z.f && (x.s || y.f),
             e: z.e && (x.s || y.f),
         })
     }
 
-    fn of_two(kind: Two, x: Mall, y: Mall) -> Result<Mall, Rule> {
+    fn of_two(
+        kind: Two,
+        x: MalleabilityProperties,
+        y: MalleabilityProperties,
+    ) -> Result<MalleabilityProperties, Rule> {
         require_two(kind, x, y)?;
         Ok(of_pair(kind, x, y))
     }
@@ -146,37 +154,40 @@ impl TypeSystem for Mall {
         Signed::NONE
     }
 
-    fn and_child(children: Signed, child: Mall) -> Signed {
+    fn and_child(children: Signed, child: MalleabilityProperties) -> Signed {
         children.and(child)
     }
 
-    #[tactic(auto, using(crate::proofs::Signing::all_s), unfolding(def_types::proofs::Rows::mall_rows))]
-    fn of_thresh(k: u64, children: Signed) -> Result<Mall, Rule> {
+    #[tactic(auto, using(crate::proofs::Signing::all_s), unfolding(def_types::proofs::Rows::malleability_rows))]
+    fn of_thresh(k: u64, children: Signed) -> Result<MalleabilityProperties, Rule> {
         fragment_rows!(thresh_arm!(k, children));
-        Ok(Mall {
+        Ok(MalleabilityProperties {
             s: children.unsigned < k,
             f: false,
             e: children.unsigned == 0,
         })
     }
 
-    fn of_multi(_k: u64, _keys: &[Key]) -> Result<Mall, Rule> {
+    fn of_multi(_k: u64, _keys: &[Key]) -> Result<MalleabilityProperties, Rule> {
         Ok(properties!(s e))
     }
 
-    fn of_wrap(wrapper: Wrapper, x: Mall) -> Result<Mall, Rule> {
+    fn of_wrap(
+        wrapper: Wrapper,
+        x: MalleabilityProperties,
+    ) -> Result<MalleabilityProperties, Rule> {
         Ok(match wrapper {
             Wrapper::A | Wrapper::S | Wrapper::N => x,
-            Wrapper::C => Mall { s: true, ..x },
-            Wrapper::D => Mall {
+            Wrapper::C => MalleabilityProperties { s: true, ..x },
+            Wrapper::D => MalleabilityProperties {
                 s: x.s,
                 ..properties!(e)
             },
-            Wrapper::V => Mall {
+            Wrapper::V => MalleabilityProperties {
                 s: x.s,
                 ..properties!(f)
             },
-            Wrapper::J => Mall {
+            Wrapper::J => MalleabilityProperties {
                 s: x.s,
                 f: false,
                 e: x.f,
@@ -186,7 +197,7 @@ impl TypeSystem for Mall {
 }
 
 /// What a fragment with two children requires of their properties.
-fn require_two(kind: Two, x: Mall, y: Mall) -> Result<(), Rule>
+fn require_two(kind: Two, x: MalleabilityProperties, y: MalleabilityProperties) -> Result<(), Rule>
     ensures { result ≡ requirements (two_row kind x y) }
 {
     fragment_rows!(pair_arms!(kind, x, y));
@@ -194,34 +205,38 @@ fn require_two(kind: Two, x: Mall, y: Mall) -> Result<(), Rule>
 }
 
 /// The properties of a fragment with two children.
-fn of_pair(kind: Two, x: Mall, y: Mall) -> Mall
+fn of_pair(
+    kind: Two,
+    x: MalleabilityProperties,
+    y: MalleabilityProperties,
+) -> MalleabilityProperties
     ensures { result ≡ (two_row kind x y).gives }
 {
     match kind {
-        Two::AndV => Mall {
+        Two::AndV => MalleabilityProperties {
             s: x.s || y.s,
             f: x.s || y.f,
             e: false,
         },
-        Two::AndB => Mall {
+        Two::AndB => MalleabilityProperties {
             s: x.s || y.s,
             f: x.f && y.f || x.s && x.f || y.s && y.f,
             e: x.e && y.e && x.s && y.s,
         },
-        Two::OrB => Mall {
+        Two::OrB => MalleabilityProperties {
             s: x.s && y.s,
             ..properties!(e)
         },
-        Two::OrC => Mall {
+        Two::OrC => MalleabilityProperties {
             s: x.s && y.s,
             ..properties!(f)
         },
-        Two::OrD => Mall {
+        Two::OrD => MalleabilityProperties {
             s: x.s && y.s,
             f: y.f,
             e: y.e,
         },
-        Two::OrI => Mall {
+        Two::OrI => MalleabilityProperties {
             s: x.s && y.s,
             f: x.f && y.f,
             e: x.e && y.f || y.e && x.f,

@@ -2,14 +2,14 @@
 //! table of fragments.
 ghost use Rattle.std.specs.Prelude.{◌≡◌, ◌&&◌, List, length};
 ghost use Rattle.def_tree.specs.Tree.{Key};
-ghost use Rattle.def_types.specs.declared.Ty.{Ty as the_ty};
-ghost use Rattle.def_types.specs.Corr.{correctness, is_b, is_w, are_same as the_are_same, and_or_row, two_row, thresh_row, multi_row, wrap_row};
+ghost use Rattle.def_types.specs.declared.CorrectnessType.{CorrectnessType as the_correctness_type};
+ghost use Rattle.def_types.specs.Correctness.{correctness, is_b, is_w, are_same as the_are_same, and_or_row, two_row, thresh_row, multi_row, wrap_row};
 ghost use Rattle.ms_types.specs.Checked.{requirements};
 ghost use Rattle.ms_types.specs.Scaffolding.Children.{seen};
 ghost use Rattle.ms_types.specs.Rows.{leaf_row};
 
 use crate::children::Children;
-use def_types::{Base, Rule, Ty};
+use def_types::{Base, CorrectnessType, Rule};
 use ms_bytes::MAX_PUBKEYS_PER_MULTISIG;
 use ms_tree::{Leaf, Two, Wrapper, fragment_rows};
 
@@ -71,7 +71,7 @@ macro_rules! lock_arms {
 }
 
 /// Refuses the number of a timelock that is none.
-#[tactic(auto, unfolding(def_types::proofs::Rows::corr_rows))]
+#[tactic(auto, unfolding(def_types::proofs::Rows::correctness_rows))]
 pub fn require_leaf(leaf: &Leaf) -> Result<(), Rule>
     ensures { result ≡ requirements (leaf_row correctness leaf.now) }
 {
@@ -92,8 +92,12 @@ macro_rules! and_or_arm {
 }
 
 /// Refuses the first requirement of `andor` that is false.
-#[tactic(auto, unfolding(def_types::proofs::Rows::corr_rows))]
-pub fn require_and_or(x: Ty, y: Ty, z: Ty) -> Result<(), Rule>
+#[tactic(auto, unfolding(def_types::proofs::Rows::correctness_rows))]
+pub fn require_and_or(
+    x: CorrectnessType,
+    y: CorrectnessType,
+    z: CorrectnessType,
+) -> Result<(), Rule>
     ensures { result ≡ requirements (and_or_row x y z) }
 {
     fragment_rows!(and_or_arm!(x, y, z));
@@ -116,8 +120,8 @@ macro_rules! pair_arms {
 }
 
 /// Refuses the first requirement of a fragment with two children that is false.
-#[tactic(auto, unfolding(def_types::proofs::Rows::corr_rows))]
-pub fn require_two(kind: Two, x: Ty, y: Ty) -> Result<(), Rule>
+#[tactic(auto, unfolding(def_types::proofs::Rows::correctness_rows))]
+pub fn require_two(kind: Two, x: CorrectnessType, y: CorrectnessType) -> Result<(), Rule>
     ensures { result ≡ requirements (two_row kind x y) }
 {
     fragment_rows!(pair_arms!(kind, x, y));
@@ -147,14 +151,14 @@ macro_rules! other_child {
 }
 
 /// Whether a threshold may have a first child of this type.
-pub fn may_be_first(x: Ty) -> bool
+pub fn may_be_first(x: CorrectnessType) -> bool
     ensures { result ≡ is_b x.base && x.d && x.u }
 {
     fragment_rows!(first_child!(x))
 }
 
 /// Whether a threshold may have a further child of this type.
-pub fn may_follow(x: Ty) -> bool
+pub fn may_follow(x: CorrectnessType) -> bool
     ensures { result ≡ is_w x.base && x.d && x.u }
 {
     fragment_rows!(other_child!(x))
@@ -174,9 +178,9 @@ macro_rules! thresh_arm {
 }
 
 /// Refuses the first requirement of `thresh` that is false.
-#[tactic(auto, unfolding(def_types::proofs::Rows::corr_rows))]
+#[tactic(auto, unfolding(def_types::proofs::Rows::correctness_rows))]
 pub fn require_thresh(k: u64, children: Children) -> Result<(), Rule>
-    ensures { (types : List the_ty) → children ≡ seen types → result ≡ requirements (thresh_row k types) }
+    ensures { (types : List the_correctness_type) → children ≡ seen types → result ≡ requirements (thresh_row k types) }
 {
     fragment_rows!(thresh_arm!(k, children));
     Ok(())
@@ -197,7 +201,7 @@ macro_rules! multi_arm {
 }
 
 /// Refuses the numbers of a `multi` that may not be.
-#[tactic(auto, unfolding(def_types::proofs::Rows::corr_rows))]
+#[tactic(auto, unfolding(def_types::proofs::Rows::correctness_rows))]
 pub fn require_multi(k: u64, count: u64) -> Result<(), Rule>
     ensures { (keys : List Key) → count ≡ length keys → result ≡ requirements (multi_row k keys) }
 {
@@ -220,8 +224,8 @@ macro_rules! wrapper_arms {
 }
 
 /// Refuses a wrapper's child that hasn't the type that it requires.
-#[tactic(auto, unfolding(def_types::proofs::Rows::corr_rows))]
-pub fn require_wrap(wrapper: Wrapper, x: Ty) -> Result<(), Rule>
+#[tactic(auto, unfolding(def_types::proofs::Rows::correctness_rows))]
+pub fn require_wrap(wrapper: Wrapper, x: CorrectnessType) -> Result<(), Rule>
     ensures { result ≡ requirements (wrap_row wrapper x) }
 {
     fragment_rows!(wrapper_arms!(wrapper, x));

@@ -1,6 +1,6 @@
 //! A type system's answer for a tree.
 ghost use Rattle.std.specs.Prelude.{◌≡◌, ◌+◌, ◌<◌, ◌^◌, ◌++◌, [], ◌∷◌, length, All, IfOk, List};
-ghost use Rattle.def_tree.specs.Range.{IsInRange};
+ghost use Rattle.def_tree.specs.InRange.{IsInRange};
 ghost use Rattle.def_tree.specs.Size.{nodes, nodes_of};
 ghost use Rattle.def_types.specs.Row.{Rows};
 ghost use Rattle.def_types.specs.System.{typed_from, typed_each};

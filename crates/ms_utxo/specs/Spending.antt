@@ -15,6 +15,8 @@ use Rattle.def_spend.specs.Input.{Spend}
 use Rattle.ms_fields.specs.Held.{Held, held_in}
 use Rattle.ms_utxo.specs.declared.amount.Amount.{Amount}
 use Rattle.ms_utxo.specs.declared.amount.Amount.TheVariants as amount
+use Rattle.ms_utxo.specs.declared.code.ScriptCode.{ScriptCode}
+use Rattle.ms_utxo.specs.declared.code.ScriptCode.TheVariants as code
 use Rattle.ms_utxo.specs.declared.utxo.Utxo.{Utxo}
 use Rattle.ms_utxo.specs.declared.utxo.Utxo.TheVariants as utxo
 
@@ -37,6 +39,14 @@ utxo_held outpoint held =
 abbrev pub script_seen : Result (Bor Bytes) State → Result Bytes State
 script_seen (Ok script) = Ok script.now
 script_seen (Err state) = Err state
+
+abbrev pub code_seen : ScriptCode → Bytes
+code_seen (code.Witness script) = script.now
+code_seen (code.KeyHash script) = script
+
+abbrev pub code_found : Result ScriptCode State → Result Bytes State
+code_found (Ok code) = Ok (code_seen code)
+code_found (Err state) = Err state
 
 -- this is the input, and these are the fields of its map
 pub record IsSpending (spend : Spend) (input : TransactionInput) (held : Held) : Type 0 where

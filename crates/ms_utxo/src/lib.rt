@@ -2,12 +2,14 @@
 #![tactic(auto)]
 
 pub use amount::Amount;
+pub use code::ScriptCode;
 pub use def_spend::{Kind, State};
-pub use program::{is_p2sh, is_script_hash, p2sh_of};
+pub use program::{is_key_hash, is_p2sh, is_script_hash, key_hash_script, p2sh_of};
 pub use spent::{Spent, spending};
 pub use utxo::{Utxo, utxo_of};
 
 mod amount;
+mod code;
 mod program;
 mod script;
 mod spent;

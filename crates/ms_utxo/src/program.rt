@@ -1,7 +1,8 @@
 //! The program that guards a spent output, and the output's kind.
 
-ghost use Rattle.std.specs.Prelude.{◌≡◌, option_map};
-ghost use Rattle.def_spend.specs.Kinds.{is_p2sh as the_is_p2sh, p2sh_of as the_p2sh_of, redeemed as the_redeemed, program_in as the_program_in, program_of_utxo as the_program_of_utxo, is_nested as the_is_nested, is_script_hash as the_is_script_hash, kind_by as the_kind_by, kind_with as the_kind_with};
+ghost use Rattle.std.specs.Prelude.{◌≡◌, length, option_map};
+ghost use Rattle.def_spend.specs.Kinds.{is_p2sh as the_is_p2sh, p2sh_of as the_p2sh_of, redeemed as the_redeemed, program_in as the_program_in, program_of_utxo as the_program_of_utxo, is_nested as the_is_nested, is_script_hash as the_is_script_hash, is_key_hash as the_is_key_hash, kind_by as the_kind_by, kind_with as the_kind_with};
+ghost use Rattle.def_spend.specs.Reading.{key_hash_script as the_key_hash_script};
 ghost use Rattle.ms_utxo.specs.Spending.{script_seen, utxo_seen};
 
 use crate::utxo::Utxo;
@@ -49,6 +50,12 @@ fn kind_by(is_nested: bool, program: &[u8]) -> Kind
         } else {
             Kind::P2wsh
         }
+    } else if is_key_hash(program) {
+        if is_nested {
+            Kind::P2shP2wpkh
+        } else {
+            Kind::P2wpkh
+        }
     } else {
         Kind::Other
     }
@@ -59,6 +66,28 @@ pub fn is_script_hash(program: &[u8]) -> bool
     ensures { result ≡ the_is_script_hash program.now }
 {
     program.len() == 34 && program[0] == 0x00 && program[1] == 0x20
+}
+
+/// Whether a program is version 0 and 20 bytes. Takes no memory.
+pub fn is_key_hash(program: &[u8]) -> bool
+    ensures { result ≡ the_is_key_hash program.now }
+{
+    program.len() == 22 && program[0] == 0x00 && program[1] == 0x14
+}
+
+/// The Script of a program that has the HASH160 of a public key: DUP, HASH160, a push of these 20 bytes, EQUALVERIFY, CHECKSIG. It
+/// demands that the program has 22 bytes. Takes no memory.
+pub fn key_hash_script(program: &[u8]) -> [u8; 25]
+    requires { length program.now ≡ 22 }
+    ensures { result ≡ the_key_hash_script program.now }
+{
+    let mut script = [0x88; 25];
+    script[0] = 0x76;
+    script[1] = 0xa9;
+    script[2] = 0x14;
+    script[3..23].copy_from_slice(&program[2..22]);
+    script[24] = 0xac;
+    script
 }
 
 /// The program of a spent Script: of P2SH the redeem script, of any other one itself.

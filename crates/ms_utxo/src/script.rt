@@ -2,10 +2,11 @@
 
 ghost use Rattle.std.specs.Prelude.{◌≡◌, option_map};
 ghost use Rattle.def_spend.specs.Reading.{script_for as the_script_for, script_of_program as the_script_of_program};
-ghost use Rattle.ms_utxo.specs.Spending.{script_seen};
+ghost use Rattle.ms_utxo.specs.Spending.{script_seen, code_found};
 ghost use Rattle.ms_utxo.specs.Scaffolding.Utxos.{script_held};
 
-use crate::program::is_script_hash;
+use crate::code::ScriptCode;
+use crate::program::{is_key_hash, is_script_hash, key_hash_script};
 use def_spend::State;
 use ms_fields::Fields;
 use ms_program::program_of;
@@ -14,8 +15,8 @@ use ms_program::program_of;
 pub fn script_code<'a>(
     program: Result<&[u8], State>,
     fields: &Fields<'a>,
-) -> Result<&'a [u8], State>
-    ensures { script_seen result ≡ script_held (script_seen program.entry) fields.now }
+) -> Result<ScriptCode<'a>, State>
+    ensures { code_found result ≡ script_held (script_seen program.entry) fields.now }
 {
     if fields.is_final() {
         return Err(State::Final);
@@ -27,11 +28,13 @@ pub fn script_code<'a>(
 }
 
 /// The Script of a program.
-fn script_of_program<'a>(program: &[u8], script: Option<&'a [u8]>) -> Result<&'a [u8], State>
-    ensures { script_seen result ≡ the_script_of_program program.now (option_map (λ b. b.now) script.entry) }
+fn script_of_program<'a>(program: &[u8], script: Option<&'a [u8]>) -> Result<ScriptCode<'a>, State>
+    ensures { code_found result ≡ the_script_of_program program.now (option_map (λ b. b.now) script.entry) }
 {
     if is_script_hash(program) {
-        script_for(program, script)
+        Ok(ScriptCode::Witness(script_for(program, script)?))
+    } else if is_key_hash(program) {
+        Ok(ScriptCode::KeyHash(key_hash_script(program)))
     } else {
         Err(State::OtherOutput)
     }

@@ -5,9 +5,10 @@ ghost use Rattle.def_spend.specs.Input.{Spend};
 ghost use Rattle.def_spend.specs.Kinds.{kind_of};
 ghost use Rattle.def_spend.specs.Reading.{script_code as the_script_code};
 ghost use Rattle.def_spend.specs.Utxo.{utxo_of as the_utxo_of, amount_of};
-ghost use Rattle.ms_utxo.specs.Spending.{amount_seen, script_seen, IsSpending};
+ghost use Rattle.ms_utxo.specs.Spending.{amount_seen, code_found, IsSpending};
 
 use crate::amount::Amount;
+use crate::code::ScriptCode;
 use crate::program::{is_nested, kind_with, program_of_utxo};
 use crate::script::script_code;
 use crate::utxo::utxo_of;
@@ -23,7 +24,7 @@ pub struct Spent<'a> {
     /// The kind of the output.
     pub kind: Kind,
     /// The Script that the input has to satisfy, or the state of an input of which none is read.
-    pub script: Result<&'a [u8], State>,
+    pub script: Result<ScriptCode<'a>, State>,
 }
 
 /// What an input spends, by the fields of its map: the amount and the kind of its output, and the Script that it demands, or the
@@ -31,7 +32,7 @@ pub struct Spent<'a> {
 pub fn spending<'a>(input: &InputRef<'_>, fields: &Fields<'a>) -> Spent<'a>
     ensures amount { (spend : Spend) → IsSpending spend input.now fields.now → amount_seen result.amount ≡ amount_of (the_utxo_of spend.input.outpoint spend.fields) }
     ensures kind { (spend : Spend) → IsSpending spend input.now fields.now → result.kind ≡ kind_of spend }
-    ensures script { (spend : Spend) → IsSpending spend input.now fields.now → script_seen result.script ≡ the_script_code spend }
+    ensures script { (spend : Spend) → IsSpending spend input.now fields.now → code_found result.script ≡ the_script_code spend }
 {
     let utxo = utxo_of(input, fields);
     let program = program_of_utxo(&utxo, fields.redeem());

@@ -1,14 +1,13 @@
 //! What final fields have consensus run.
 
 ghost use Rattle.std.specs.Prelude.{◌≡◌, ◌-◌, true, false, length, take, slice_get, Some, Err, option_map};
-ghost use Rattle.def_spend.specs.Kinds.{is_script_hash as the_is_script_hash};
+ghost use Rattle.def_spend.specs.Kinds.{is_script_hash as the_is_script_hash, is_key_hash as the_is_key_hash};
 ghost use Rattle.def_verify.specs.Final.{pushed_program as the_pushed_program, final_program as the_final_program, script_execution as the_script_execution, program_execution as the_program_execution, no_execution as the_no_execution, execution_by as the_execution_by, execution_of as the_execution_of};
-ghost use Rattle.def_verify.specs.KeyHash.{is_key_hash as the_is_key_hash, key_hash_script as the_key_hash_script};
 ghost use Rattle.ms_verify.specs.Seen.{items_in, code_bytes, execution_seen};
 
 use def_verify::Flaw;
 use ms_program::program_of;
-use ms_utxo::{is_p2sh, is_script_hash, p2sh_of};
+use ms_utxo::{is_key_hash, is_p2sh, is_script_hash, key_hash_script, p2sh_of};
 
 /// The Script that is run.
 #[derive(Clone, Copy, Debug)]
@@ -124,25 +123,4 @@ fn script_execution<'a>(program: &[u8], items: &[&'a [u8]]) -> Result<Code<'a>, 
     } else {
         Err(Flaw::WrongScript)
     }
-}
-
-/// Whether a program is version 0 and 20 bytes.
-fn is_key_hash(program: &[u8]) -> bool
-    ensures { result ≡ the_is_key_hash program.now }
-{
-    program.len() == 22 && program[0] == 0x00 && program[1] == 0x14
-}
-
-/// DUP, HASH160, a push of the 20 bytes of such a program, EQUALVERIFY, CHECKSIG.
-fn key_hash_script(program: &[u8]) -> [u8; 25]
-    requires { length program.now ≡ 22 }
-    ensures { result ≡ the_key_hash_script program.now }
-{
-    let mut script = [0x88; 25];
-    script[0] = 0x76;
-    script[1] = 0xa9;
-    script[2] = 0x14;
-    script[3..23].copy_from_slice(&program[2..22]);
-    script[24] = 0xac;
-    script
 }

@@ -5,7 +5,7 @@ pub use fault::WitnessFault;
 pub use ms_program::program_of;
 pub use reading::read_witness;
 pub use replaying::{ReplayStop, replay};
-pub use witness::witness_bytes;
+pub use witness::{stack_bytes, witness_bytes};
 
 mod examples;
 mod fault;

@@ -1,8 +1,8 @@
 //! Writing a witness as bytes.
 
-ghost use Rattle.std.specs.Prelude.{◌≡◌, ◌≤◌, ◌++◌, length, IfOk, OnOk};
+ghost use Rattle.std.specs.Prelude.{◌≡◌, ◌≤◌, ◌++◌, [], length, IfOk, OnOk};
 ghost use Rattle.def_script.specs.Sizes.{size_bytes};
-ghost use Rattle.def_script.specs.Witness.{sized, witness_text};
+ghost use Rattle.def_script.specs.Witness.{sized, items_text, witness_text};
 ghost use Rattle.ms_witness.specs.Reading.{FitsWitness};
 
 use ms_script::{Blob, Stack, compact_size};
@@ -23,6 +23,22 @@ pub fn witness_bytes(alloc: Global, stack: &Stack, script: &[u8]) -> Result<Blob
         push_item(&mut bytes, stack.item(i))?;
     }
     push_item(&mut bytes, script)?;
+    Ok(Blob::from_vec(bytes))
+}
+
+/// The witness of a P2WPKH input (BIP 141): the number of items, and then each item of the stack, bottom first, after its length.
+///
+/// It demands that the stack has at most 9,999 items, and that each of them has at most 10,000 bytes. `AllocError` comes only where
+/// memory is wanting.
+pub fn stack_bytes(alloc: Global, stack: &Stack) -> Result<Blob, AllocError>
+    requires { FitsWitness stack.now [] }
+    ensures { IfOk result (λ bytes. bytes ≡ items_text stack.now) }
+{
+    let mut bytes = Vec::with_capacity(alloc, room(stack, &[]))?;
+    push_size(&mut bytes, stack.len())?;
+    for number in 0..stack.len() {
+        push_item(&mut bytes, stack.item(number))?;
+    }
     Ok(Blob::from_vec(bytes))
 }
 

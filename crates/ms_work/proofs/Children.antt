@@ -1,7 +1,7 @@
 -- The children of a threshold: their room.
 use Rattle.std.proofs.Common.{◌≡◌, ℕ, zero, suc, ◌+◌, ◌-◌, ◌<◌, ◌≤◌, List, [], ◌∷◌, length, take, drop, length-take, length-drop, get_or, All, sym, subst, arith}
 use Rattle.def_tree.specs.Tree as model
-use Rattle.def_tree.specs.Size.{measure, measure_of}
+use Rattle.def_tree.specs.InRange.{measure, measure_of}
 use Rattle.def_types.specs.Typed.{IsTyped, AreTyped}
 use Rattle.ms_tree.specs.declared.tree.Tree.{Tree}
 use Rattle.ms_tree.specs.Shape.{shape, shapes}

@@ -1,7 +1,6 @@
 //! Working room that calls are lent.
 ghost use Rattle.std.specs.Prelude.{◌≡◌, ◌*◌, IfOk, vec_len};
-ghost use Rattle.def_tree.specs.Range.{IsInRange};
-ghost use Rattle.def_tree.specs.Size.{measure};
+ghost use Rattle.def_tree.specs.InRange.{IsInRange, measure};
 ghost use Rattle.ms_tree.specs.Shape.{shape};
 
 use ms_choice::Slot;

@@ -2,7 +2,7 @@
 ghost use Rattle.std.specs.Prelude.{◌≡◌, ◌<◌, length, map, slice_index, All, IfOk};
 ghost use Rattle.def_emit.specs.Emit.{emit};
 ghost use Rattle.def_trace.specs.Writers.{places_of};
-ghost use Rattle.def_tree.specs.Range.{IsInRange};
+ghost use Rattle.def_tree.specs.InRange.{IsInRange};
 ghost use Rattle.def_tree.specs.Size.{nodes};
 ghost use Rattle.ms_tree.specs.Shape.{shape};
 

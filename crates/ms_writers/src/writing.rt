@@ -4,7 +4,7 @@
 ghost use Rattle.std.specs.Prelude.{◌≡◌, ℕ, ◌+◌, map, IfOk, OnOk, All};
 ghost use Rattle.def_emit.specs.Emit.{hash_opcode as the_hash_opcode};
 ghost use Rattle.def_trace.specs.Writers.{Attributed, attributed, attributed_sum, attributed_added};
-ghost use Rattle.def_tree.specs.Range.{IsInRange};
+ghost use Rattle.def_tree.specs.InRange.{IsInRange};
 ghost use Rattle.def_tree.specs.Size.{nodes, nodes_of};
 ghost use Rattle.def_tree.specs.Tree as tree;
 ghost use Rattle.ms_hash.specs.Value.{kind_of, bytes_of};
@@ -12,7 +12,7 @@ ghost use Rattle.ms_tree.specs.Shape.{shape, shapes, leaf_shape};
 ghost use Rattle.ms_writers.specs.Scaffolding.Wrote.{wrote_all};
 
 use crate::written::Written;
-use ms_hash::{HashKind, HashVal};
+use ms_hash::{HashKind, HashValue};
 use ms_script::Op;
 use ms_tree::{Key, Leaf, Tree, Two, View, Wrapper};
 use std::alloc::{AllocError, Global};
@@ -58,18 +58,18 @@ fn add_leaf(written: &mut Written, leaf: Leaf, node: u32) -> Result<(), AllocErr
         }
         Leaf::Older(_) => {
             written.push(node)?;
-            written.code(node, Op::Csv)
+            written.code(node, Op::CheckSequenceVerify)
         }
         Leaf::After(_) => {
             written.push(node)?;
-            written.code(node, Op::Cltv)
+            written.code(node, Op::CheckLockTimeVerify)
         }
         Leaf::Hash(value) => add_hash(written, &value, node),
     }
 }
 
 /// SIZE, 32, EQUALVERIFY, the hash function, the hash value and EQUAL.
-fn add_hash(written: &mut Written, value: &HashVal, node: u32) -> Result<(), AllocError>
+fn add_hash(written: &mut Written, value: &HashValue, node: u32) -> Result<(), AllocError>
     ensures { OnOk result (written.new ≡ wrote_all written.old (attributed node (tree.hash (kind_of value.now) (bytes_of value.now)))) }
 {
     written.code(node, Op::Size)?;

@@ -311,8 +311,8 @@ module _ (small large : Checker) (more : (key sig : Bytes) → IsTrue (small key
     acts op.CheckSigVerify s = both_stay _ (λ c. on_checks (check_sig large) (found c s)) (on_main verify) (on_main verify) (sig s) (main verify)
     acts op.CheckMultiSig s = multi s
     acts op.CheckMultiSigVerify s = both_stay _ (λ c. on_multi (check_multi_sig large) (found c s)) (on_main verify) (on_main verify) (multi s) (main verify)
-    acts op.Cltv s = main (lock (λ n. after_holds n locks)) s
-    acts op.Csv s = main (lock (λ n. older_holds n locks)) s
+    acts op.CheckLockTimeVerify s = main (lock (λ n. after_holds n locks)) s
+    acts op.CheckSequenceVerify s = main (lock (λ n. older_holds n locks)) s
 
     acts_if : (b : Bool) (op : Op) (s : State) → Stays (only_if b (act (given small) op) s) (λ c. only_if b (act (given large) op) (found c s))
     acts_if true op s end c e = acts op s end c e

@@ -9,7 +9,8 @@ use Rattle.def_script.specs.Bytes.{Bytes}
 use Rattle.def_machine.specs.Stacks.{Pairs, Checker, member}
 use Rattle.def_machine.specs.Run.{Outcome, accepted, run}
 use Rattle.def_tree.specs.Tree.{Tree}
-use Rattle.def_tree.specs.Range.{IsInRange, IsWritable}
+use Rattle.def_tree.specs.Range.{IsWritable}
+use Rattle.def_tree.specs.InRange.{IsInRange}
 use Rattle.def_emit.specs.Emit.{script_of}
 use Rattle.def_text.specs.Refusal.{TextReads}
 use Rattle.def_text.proofs.SpelledInRange.{spelled_in_range}

@@ -7,4 +7,5 @@ pub mod Traces
 pub mod Listings
 pub mod Policies
 pub mod Decodings
+pub mod Promises
 pub mod Scaffolding

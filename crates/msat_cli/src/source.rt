@@ -1,6 +1,6 @@
 //! The file that the source holds, and what is answered to it.
 ghost use Rattle.std.specs.Prelude.{◌≤◌, length, IfOk, IfErr};
-ghost use Rattle.def_tree.specs.Range.{IsInRange};
+ghost use Rattle.def_tree.specs.InRange.{IsInRange};
 ghost use Rattle.def_sane.specs.Unfit.{IsValid, IsSane};
 ghost use Rattle.ms_answer_laws.specs.Laws.{walked};
 ghost use Rattle.def_answer.specs.Reply.{satisfy_reply, run_reply, plan_reply, audit_reply, trace_reply, text_trace_reply};

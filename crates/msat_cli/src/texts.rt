@@ -1,7 +1,7 @@
 //! What is answered to a text.
 ghost use Rattle.std.specs.Prelude.{◌≡◌, ◌≢◌, ◌≤◌, Option, IfOk};
 ghost use Rattle.std.specs.String.{string_bytes};
-ghost use Rattle.def_tree.specs.Range.{IsInRange};
+ghost use Rattle.def_tree.specs.InRange.{IsInRange};
 ghost use Rattle.def_tree.specs.Tree.{Tree};
 ghost use Rattle.def_sane.specs.declared.Unfit.{Unfit as TheUnfit};
 ghost use Rattle.def_sane.specs.Unfit.{first_unfit, first_unfit_under, first_unfit_valid_under};

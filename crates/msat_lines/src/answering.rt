@@ -2,7 +2,7 @@
 ghost use Rattle.def_answer.specs.Answer.{Answer};
 ghost use Rattle.def_answer.specs.Status.{code_of};
 ghost use Rattle.msat_lines.specs.Frame.{status_of as the_status_of};
-ghost use Rattle.msat_lines.specs.Promises.{IsCallOfMsat};
+ghost use Rattle.msat_cli.specs.Promises.{IsCallOfMsat};
 
 use def_answer::Status;
 use ms_frame::OfWords;

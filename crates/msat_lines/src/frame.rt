@@ -5,7 +5,7 @@ ghost use Rattle.ms_frame.specs.Asking.{AsksLines};
 ghost use Rattle.ms_frame.specs.Frame.{EndsAsLines};
 ghost use Rattle.ms_io.specs.Sides.{call, side};
 ghost use Rattle.msat_lines.specs.Frame.{WholeAnswer, status_of};
-ghost use Rattle.msat_lines.specs.Promises.{IsCallOfMsat};
+ghost use Rattle.msat_cli.specs.Promises.{IsCallOfMsat};
 
 use crate::answering::Msat;
 use def_answer::Status;

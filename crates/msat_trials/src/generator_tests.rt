@@ -1,6 +1,6 @@
 //! What `gen` makes of a number.
 
-use ms_hash::{HashVal, sha256};
+use ms_hash::{HashValue, sha256};
 use ms_oracle::{Locks, SigPair};
 use msat_cli::generated;
 use std::test::Fail;
@@ -44,10 +44,10 @@ fn assets_of_four_children(rt: HostRuntime) -> Result<(), Fail> {
         assert!(rt; is_pair(assets.pairs().get(at), *byte, sig));
     }
     for i in 0..4_u8 {
-        let value = HashVal::Sha256(sha256(&[i; 32]));
+        let value = HashValue::Sha256(sha256(&[i; 32]));
         assert_eq!(rt; assets.preimage_of(&value), Some([i; 32].as_slice()));
     }
-    let value = HashVal::Sha256(sha256(&[4; 32]));
+    let value = HashValue::Sha256(sha256(&[4; 32]));
     assert_eq!(rt; assets.preimage_of(&value), None);
     Ok(())
 }

@@ -142,10 +142,10 @@ extract_all_answered psbt [] = tt
 extract_all_answered psbt (input ∷ inputs) = extract_answered psbt (first_open (input ∷ inputs))
 
 command_answered : (command : Command) (form : Form) (psbt : Psbt) (inputs : List Input) → IsAnswered (command_reply command form psbt inputs).status
-command_answered command.Finalize form psbt inputs = settled_answered (list_all is_settled inputs)
-command_answered command.Inspect form psbt inputs = settled_answered (list_all is_settled inputs)
+command_answered (command.Finalize verification) form psbt inputs = settled_answered (list_all is_settled inputs)
+command_answered (command.Inspect verification) form psbt inputs = settled_answered (list_all is_settled inputs)
 command_answered command.Extract form psbt inputs = extract_all_answered psbt inputs
-command_answered command.Hashes form psbt inputs = tt
+command_answered (command.Hashes verification) form psbt inputs = tt
 command_answered command.Verify form psbt inputs = settled_answered (list_all (λ input. is_valid (verdict_of input)) inputs)
 
 source_answered : (command : Command) (form : Form) (o : Result Psbt Refusal) (r : Reply) → RepliesToSource command form o r → IsAnswered r.status

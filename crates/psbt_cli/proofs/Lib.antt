@@ -1,3 +1,4 @@
 pub mod Ending
 pub mod Showing
 pub mod Promising
+pub mod Alike

@@ -14,7 +14,7 @@ use Rattle.def_psbt_answer.specs.declared.words.Request.{Request}
 use Rattle.def_psbt_answer.specs.declared.words.Request.TheVariants as request
 use Rattle.def_psbt_answer.specs.Words.{request_of}
 use Rattle.def_psbt_answer.specs.Reply.{Reply, reply, refusal_reply, form_of, command_reply}
-use Rattle.def_psbt_answer.specs.Answer.{RepliesToSource, RepliesToRequest, RepliesToWords, Answer}
+use Rattle.def_psbt_answer.specs.Answer.{verification_of, RepliesToSource, RepliesToRequest, RepliesToWords, Answer}
 use Rattle.ms_psbt_answer_laws.proofs.Unique.{one_inputs}
 use Rattle.psbt_cli.specs.Ends.{Call, Ends}
 use Rattle.psbt_cli.specs.Shown.{IsCalled, IsAsked, WritesSuch, ShowsFinalized, ShowsInspected, ShowsExtracted, ShowsHashes, ShowsVerified, RefusesSource, ShowsCombined}
@@ -43,11 +43,11 @@ called request call source ends is = go (answered call source ends is.told)
     go (inl fault) = inl fault
     go (inr (report, w, a)) = inr (report, w, replied call.words request source call.status report is.named a)
 
-to_psbt : (command : Command) (source : Bytes) (psbt : Psbt) (inputs : List Input) (r : Reply) → psbt_of source ≡ Ok psbt → AreInputs psbt inputs
+to_psbt : (command : Command) (source : Bytes) (psbt : Psbt) (inputs : List Input) (r : Reply) → psbt_of source ≡ Ok psbt → AreInputs (verification_of command) psbt inputs
     → RepliesToSource command (form_of source) (psbt_of source) r → r ≡ command_reply command (form_of source) psbt inputs
 to_psbt command source psbt inputs r given read h =
     let replies = subst (λ (o : Result Psbt Refusal). RepliesToSource command (form_of source) o r) given h in
-    replies.2 ∙ ap (command_reply command (form_of source) psbt) (one_inputs psbt replies.0 inputs replies.1 read)
+    replies.2 ∙ ap (command_reply command (form_of source) psbt) (one_inputs (verification_of command) psbt replies.0 inputs replies.1 read)
 
 -- with its answer
 pub shown_answer : (command : Command) (call : Call) (source : Bytes) (psbt : Psbt) (inputs : List Input) → Ends call
@@ -82,19 +82,19 @@ both : (made : Reply) (s : Status) (report : Bytes) → reply s report ≡ made 
 both made s report e = (ap (λ (r : Reply). r.report) e, ap (λ (r : Reply). r.status) e)
 
 pub shows_finalized : (call : Call) → Ends call → ShowsFinalized call
-shows_finalized call ends source psbt inputs is =
-    of_shown call _ _ (λ report e. both _ call.status report e) (shown command.Finalize call source psbt inputs ends is)
+shows_finalized call ends verification source psbt inputs is =
+    of_shown call _ _ (λ report e. both _ call.status report e) (shown (command.Finalize verification) call source psbt inputs ends is)
 
 pub shows_inspected : (call : Call) → Ends call → ShowsInspected call
-shows_inspected call ends source psbt inputs is =
-    of_shown call _ _ (λ report e. both _ call.status report e) (shown command.Inspect call source psbt inputs ends is)
+shows_inspected call ends verification source psbt inputs is =
+    of_shown call _ _ (λ report e. both _ call.status report e) (shown (command.Inspect verification) call source psbt inputs ends is)
 
 pub shows_extracted : (call : Call) → Ends call → ShowsExtracted call
 shows_extracted call ends source psbt inputs is = shown command.Extract call source psbt inputs ends is
 
 pub shows_hashes : (call : Call) → Ends call → ShowsHashes call
-shows_hashes call ends source psbt inputs is =
-    of_shown call _ _ (λ report e. both _ call.status report e) (shown command.Hashes call source psbt inputs ends is)
+shows_hashes call ends verification source psbt inputs is =
+    of_shown call _ _ (λ report e. both _ call.status report e) (shown (command.Hashes verification) call source psbt inputs ends is)
 
 pub shows_verified : (call : Call) → Ends call → ShowsVerified call
 shows_verified call ends source psbt inputs is =

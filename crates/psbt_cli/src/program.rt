@@ -7,7 +7,7 @@ ghost use Rattle.ms_io.specs.Sides.{call, side, Rose};
 ghost use Rattle.ms_io.specs.Reads.{ReadsFront, IsUnread};
 ghost use Rattle.psbt_cli.specs.Ends.{Ends, EndsAsUsage, EndsAsAnswered, IsReadFor};
 ghost use Rattle.psbt_cli.specs.Shown.{ShowsFinalized, ShowsInspected, ShowsExtracted, ShowsHashes, ShowsVerified, RefusesSource, ShowsCombined};
-ghost use Rattle.psbt_cli.specs.Promises.{LosesNothing, ShowsWitnesses, TellsLacking, ExtractsTransaction, CombinesParts};
+ghost use Rattle.psbt_cli.specs.Promises.{LosesNothing, ShowsWitnesses, TellsLacking, AnswersAlike, ComparesForms, ExtractsTransaction, CombinesParts};
 ghost use Rattle.psbt_cli.specs.Scaffolding.Steps.{WritesResult};
 
 use crate::answer::{Stop, answer_words};
@@ -16,7 +16,7 @@ use ms_combine_laws::laws::combined;
 use ms_io::{Sink, Source, put_report};
 use ms_psbt_laws::laws::{network, written};
 use ms_psbt_replies::Reply;
-use ms_spend_laws::laws::{ready, tried, unsatisfied};
+use ms_spend_laws::laws::{ready, tried, unsatisfied, verified};
 use ms_words::Word;
 use std::alloc::Global;
 
@@ -25,8 +25,9 @@ const USAGE: &[u8] = b"refused usage\n";
 const TOO_LONG: &[u8] = b"refused psbt TooLong\n";
 
 /// Answers the words of a command line: makes the report, writes it to the sink by one call of `put_report`, and gives the status.
-/// The words are one of `finalize`, `inspect`, `extract`, `hashes` and `verify`, and the source holds a PSBT, as its bytes or as base64
-/// (BIP 174, BIP 370); or they are `combine`, and each line of the source has the base64 of one. The source is read only for these words.
+/// The words are one of `finalize`, `inspect`, `extract`, `hashes` and `verify`, or `--unverified` behind `finalize`, `inspect` or `hashes`: no
+/// signature is looked at. The source holds a PSBT, as its bytes or as base64 (BIP 174, BIP 370). Or the word is `combine`, and each line of
+/// the source has the base64 of one. The source is read only for these words.
 pub fn msat_psbt<S: Source, K: Sink>(
     alloc: Global,
     words: &[Word],
@@ -60,7 +61,7 @@ pub fn msat_psbt<S: Source, K: Sink>(
     ensures combined { ShowsCombined (call words.now (side S.left S.faults source.old source.new) (side K.written K.faults sink.old sink.new) result) }
 
     // Each input that is made final has a canonical satisfaction, and these are the tried ones of which one exists; the interpreter
-    // accepts its witness, and nobody can change it. An Unsatisfied one has nothing to accept; where it has no plan no signatures would
+    // accepts its witness, without the option also under exactly the check of consensus, and nobody can change it. An Unsatisfied one has nothing to accept; where it has no plan no signatures would
     // be enough, and where each key that is asked signs it is Ready.
     ensures witnesses { ShowsWitnesses (call words.now (side S.left S.faults source.old source.new) (side K.written K.faults sink.old sink.new) result) }
     ensures lacking { TellsLacking (call words.now (side S.left S.faults source.old source.new) (side K.written K.faults sink.old sink.new) result) }
@@ -70,6 +71,11 @@ pub fn msat_psbt<S: Source, K: Sink>(
     ensures nothing_lost { LosesNothing (call words.now (side S.left S.faults source.old source.new) (side K.written K.faults sink.old sink.new) result) }
     ensures transaction { ExtractsTransaction (call words.now (side S.left S.faults source.old source.new) (side K.written K.faults sink.old sink.new) result) }
 
+    // Where each signature is good, the answer of `finalize` is one with the option and without it, and `inspect` finds one state,
+    // satisfaction and plan. An input of two states is Ready with the option, and Unsatisfied without it.
+    ensures alike { AnswersAlike (call words.now (side S.left S.faults source.old source.new) (side K.written K.faults sink.old sink.new) result) }
+    ensures compared { ComparesForms (call words.now (side S.left S.faults source.old source.new) (side K.written K.faults sink.old sink.new) result) }
+
     // What `combine` writes is read again, with the version, the transaction and exactly the keys of its parts; and combined again with
     // its parts it stays the same.
     ensures parts { CombinesParts (call words.now (side S.left S.faults source.old source.new) (side K.written K.faults sink.old sink.new) result) }
@@ -77,6 +83,7 @@ pub fn msat_psbt<S: Source, K: Sink>(
     tried();
     ready();
     unsatisfied();
+    verified();
     written();
     network();
     combined();

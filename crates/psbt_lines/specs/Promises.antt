@@ -6,7 +6,7 @@ use Rattle.ms_io.specs.Sides.{Rose}
 use Rattle.ms_io.specs.Reads.{ReadsFront, IsUnread}
 use Rattle.psbt_cli.specs.Ends.{Call, Ends, EndsAsUsage, EndsAsAnswered, IsReadFor}
 use Rattle.psbt_cli.specs.Shown.{ShowsFinalized, ShowsInspected, ShowsExtracted, ShowsHashes, ShowsVerified, RefusesSource, ShowsCombined}
-use Rattle.psbt_cli.specs.Promises.{LosesNothing, ShowsWitnesses, TellsLacking, ExtractsTransaction, CombinesParts}
+use Rattle.psbt_cli.specs.Promises.{LosesNothing, ShowsWitnesses, TellsLacking, AnswersAlike, ComparesForms, ExtractsTransaction, CombinesParts}
 
 pub record IsCallOfPsbt (call : Call) : Type 0 where
   pub end : Ends call
@@ -27,5 +27,7 @@ pub record IsCallOfPsbt (call : Call) : Type 0 where
   pub witnesses : ShowsWitnesses call
   pub lacking : TellsLacking call
   pub nothing_lost : LosesNothing call
+  pub alike : AnswersAlike call
+  pub compared : ComparesForms call
   pub transaction : ExtractsTransaction call
   pub parts : CombinesParts call

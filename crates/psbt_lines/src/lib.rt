@@ -6,3 +6,4 @@ pub use frame::program;
 
 mod answering;
 mod frame;
+pub mod laws;

@@ -19,7 +19,8 @@ pub fn answer(words: &[&str], source: &[u8]) -> Result<(u32, String), Error> {
     Ok((code, String::from_utf8_lossy(&report).into_owned()))
 }
 
-/// The exit status and the report of `msat-psbt` for these words, `finalize`, `inspect`, `extract`, `hashes`, `verify` or `combine`, where its standard input holds
+/// The exit status and the report of `msat-psbt` for these words, `finalize`, `inspect` or `hashes`, each alone or with `--unverified`
+/// behind it, `extract`, `verify` or `combine`, where its standard input holds
 /// a PSBT, as bytes or as base64. What `finalize` reports is that PSBT, in the same form, with its inputs made final.
 pub fn psbt_answer(words: &[&str], source: &[u8]) -> Result<(u32, Vec<u8>), Error> {
     answered(msat_sys::msat_psbt_answer, words, source)

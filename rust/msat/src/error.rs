@@ -129,12 +129,13 @@ pub enum RunFault {
     WrongScript,
 }
 
-/// Why a PSBT is refused, and the byte of it, from 0, where the refusal has a place.
+/// Why a PSBT is refused, and the byte of it, from 0, where the refusal has a place. Of several that are combined also which one it is, from 1.
 #[derive(Clone, Copy, Debug, PartialEq, Eq, Hash)]
 #[non_exhaustive]
 pub struct PsbtRefusal {
     pub fault: PsbtFault,
     pub place: Option<u64>,
+    pub line: Option<u64>,
 }
 
 /// Why a PSBT is refused. docs/FORMATS.md says when each comes.
@@ -155,6 +156,9 @@ pub enum PsbtFault {
     Excluded,
     RepeatedOutpoint,
     LockTime,
+    NoPsbt,
+    OtherVersion,
+    OtherTransaction,
     /// One that this version doesn't know.
     Other,
 }
@@ -224,7 +228,10 @@ impl fmt::Display for Error {
         match self {
             Error::Text(refusal) => write!(f, "refused text {refusal}"),
             Error::File(refusal) => write!(f, "refused file {refusal}"),
-            Error::Psbt(refusal) => write!(f, "refused psbt {refusal}"),
+            Error::Psbt(refusal) => match refusal.line {
+                Some(line) => write!(f, "refused line {line} {refusal}"),
+                None => write!(f, "refused psbt {refusal}"),
+            },
             Error::NoSatisfaction => f.write_str("no satisfaction"),
             Error::Script(refusal) => write!(f, "refused script {refusal}"),
             Error::NotAccepted(refusal) => write!(f, "not accepted {refusal}"),

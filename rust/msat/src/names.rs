@@ -92,7 +92,7 @@ const MEMBERS: [(Member, &str); 10] = [
 ];
 
 /// The faults of PSBTs.
-const PSBT_FAULTS: [PsbtFault; 14] = [
+const PSBT_FAULTS: [PsbtFault; 17] = [
     PsbtFault::TooLong,
     PsbtFault::NotBase64,
     PsbtFault::Magic,
@@ -107,6 +107,9 @@ const PSBT_FAULTS: [PsbtFault; 14] = [
     PsbtFault::Excluded,
     PsbtFault::RepeatedOutpoint,
     PsbtFault::LockTime,
+    PsbtFault::NoPsbt,
+    PsbtFault::OtherVersion,
+    PsbtFault::OtherTransaction,
 ];
 
 /// The rule that a report calls so.

@@ -1,5 +1,5 @@
 // SPDX-License-Identifier: MIT
-//! PSBTs: what `msat-psbt inspect` and `msat-psbt hashes` tell, by types.
+//! PSBTs: what `msat-psbt inspect` and `msat-psbt hashes` tell, by types, and several that become one.
 //!
 //! A PSBT comes as bytes, or as base64. The library answers, as the program does; the reading of its report into these types is
 //! tested on every report of examples/psbt and on broken ones, and not proved. `psbt_answer` finalizes and extracts.
@@ -14,7 +14,7 @@
 
 use crate::calls::psbt_answer;
 use crate::error::{Error, PsbtFault, PsbtRefusal, Rule};
-use crate::names;
+use crate::{Judgement, names};
 use msat_sys::{MSAT_DONE, MSAT_PSBT_OPEN, MSAT_PSBT_REFUSED, MSAT_USAGE};
 
 /// What a transaction does with the money, and of each input what it is, what it demands, and what is missing.
@@ -113,10 +113,13 @@ pub struct Input {
     pub index: u32,
     pub sequence: u32,
     pub amount: Amount,
-    /// The kind of the spent output: `p2wsh`, `p2sh-p2wsh` or `other`.
+    /// The kind of the spent output: `p2wsh`, `p2wpkh`, `p2sh-p2wsh`, `p2sh-p2wpkh` or `other`.
     pub kind: Option<String>,
     /// The signatures of compressed keys: each key, and the hash type behind its signature.
     pub signatures: Vec<([u8; 33], u8)>,
+    /// How each of these signatures is judged; empty where that isn't told: in states in which it isn't known what they sign, and where
+    /// they aren't verified.
+    pub words: Vec<Judgement>,
     /// The miniscript.
     pub text: Option<String>,
     pub policy: Option<String>,
@@ -158,21 +161,95 @@ pub struct Check {
     pub key: [u8; 33],
     pub signature: Vec<u8>,
     pub hash: Option<[u8; 32]>,
+    /// How it is judged, where signatures are verified.
+    pub word: Option<Judgement>,
 }
 
 /// What the transaction of a PSBT does with the money, and of each input what it is, what it demands, and what is missing.
 pub fn inspect(psbt: &[u8]) -> Result<Inspection, Error> {
-    told("inspect", psbt, read_inspection)
+    told(&["inspect"], psbt, read_inspection)
 }
 
-/// What the signatures of each input of a PSBT sign.
+/// The same where no signature is looked at, and each counts.
+pub fn inspect_unverified(psbt: &[u8]) -> Result<Inspection, Error> {
+    told(&["inspect", "--unverified"], psbt, read_inspection)
+}
+
+/// What the signatures of each input of a PSBT sign, and how those that are there are judged.
 pub fn hashes(psbt: &[u8]) -> Result<Vec<Hashes>, Error> {
-    told("hashes", psbt, read_hashes)
+    told(&["hashes"], psbt, read_hashes)
 }
 
-/// What the report of a command is read as.
-fn told<T>(command: &str, psbt: &[u8], read: impl Fn(&str) -> Option<T>) -> Result<T, Error> {
-    let (code, report) = psbt_answer(&[command], psbt)?;
+/// The same where no signature is looked at.
+pub fn hashes_unverified(psbt: &[u8]) -> Result<Vec<Hashes>, Error> {
+    told(&["hashes", "--unverified"], psbt, read_hashes)
+}
+
+/// One PSBT that holds what several of one transaction hold, in the form of the first one, bytes or one line of base64: in each map the pairs of
+/// the first, then those of the second whose keys haven't stood yet, and so on. So of a key with several values the first one's stays.
+///
+/// ```
+/// let psbt = "cHNidP8BAAoCAAAAAAAAAAAAAA==";
+/// assert_eq!(msat::psbt::combine(&[psbt, psbt])?, psbt.as_bytes());
+/// # Ok::<(), msat::Error>(())
+/// ```
+pub fn combine<P: AsRef<[u8]>>(psbts: &[P]) -> Result<Vec<u8>, Error> {
+    let mut lines = Vec::new();
+    for psbt in psbts {
+        let line = line_of(psbt.as_ref());
+        if line.is_empty() {
+            hashes(psbt.as_ref())?; // It would be passed over as a line, and is refused by itself.
+        }
+        lines.extend(line);
+        lines.push(b'\n');
+    }
+    let is_base64 = psbts.first().is_none_or(|it| !it.as_ref().starts_with(MAGIC));
+    let bytes = |line: &str| if is_base64 { Some(line.into()) } else { decoded(line.as_bytes()) };
+    told(&["combine"], &lines, |report| bytes(report.trim_end_matches('\n')))
+}
+
+const MAGIC: &[u8] = b"psbt\xff";
+
+/// A PSBT as one line of base64.
+fn line_of(psbt: &[u8]) -> Vec<u8> {
+    if psbt.starts_with(MAGIC) { encoded(psbt) } else { psbt.iter().copied().filter(|it| !b" \t\r\n".contains(it)).collect() }
+}
+
+/// Base64, RFC 4648.
+fn encoded(bytes: &[u8]) -> Vec<u8> {
+    const LETTERS: &[u8; 64] = b"ABCDEFGHIJKLMNOPQRSTUVWXYZabcdefghijklmnopqrstuvwxyz0123456789+/";
+    let group = |three: &[u8]| {
+        let bits = (0..3).fold(0, |bits, i| (bits << 8) | usize::from(three.get(i).copied().unwrap_or(0)));
+        [0, 1, 2, 3].map(|i| if i <= three.len() { LETTERS[(bits >> (18 - 6 * i)) & 63] } else { b'=' })
+    };
+    bytes.chunks(3).flat_map(group).collect()
+}
+
+/// The bytes of a whole line of base64.
+fn decoded(line: &[u8]) -> Option<Vec<u8>> {
+    let letter = |letter: &u8| match letter {
+        b'A'..=b'Z' => Some(letter - b'A'),
+        b'a'..=b'z' => Some(letter - b'a' + 26),
+        b'0'..=b'9' => Some(letter - b'0' + 52),
+        b'+' => Some(62),
+        b'/' => Some(63),
+        _ => None,
+    };
+    let mut bytes = Vec::with_capacity(line.len() / 4 * 3);
+    let (mut bits, mut held) = (0_u32, 0);
+    for it in line.iter().take_while(|it| **it != b'=') {
+        (bits, held) = (((bits << 6) | u32::from(letter(it)?)) & 0xffff, held + 6);
+        if held >= 8 {
+            held -= 8;
+            bytes.push(u8::try_from((bits >> held) & 0xff).ok()?);
+        }
+    }
+    Some(bytes)
+}
+
+/// What the report of these words is read as.
+fn told<T>(words: &[&str], psbt: &[u8], read: impl Fn(&str) -> Option<T>) -> Result<T, Error> {
+    let (code, report) = psbt_answer(words, psbt)?;
     let report = String::from_utf8_lossy(&report);
     match code {
         MSAT_DONE | MSAT_PSBT_OPEN => read(&report).ok_or(Error::Other(code)),
@@ -184,12 +261,16 @@ fn told<T>(command: &str, psbt: &[u8], read: impl Fn(&str) -> Option<T>) -> Resu
 
 /// The refusal that a report tells.
 fn refusal(report: &str) -> Option<PsbtRefusal> {
-    let words = report.strip_prefix("refused psbt ")?.trim_end_matches('\n');
+    let said = report.trim_end_matches('\n');
+    let (line, words) = match said.strip_prefix("refused line ") {
+        Some(rest) => rest.split_once(' ').and_then(|(line, words)| Some((Some(line.parse().ok()?), words)))?,
+        None => (None, said.strip_prefix("refused psbt ")?),
+    };
     let (name, place) = match words.split_once(" at ") {
         Some((name, place)) => (name, Some(place.parse().ok()?)),
         None => (words, None),
     };
-    Some(PsbtRefusal { fault: names::psbt_fault(name).unwrap_or(PsbtFault::Other), place })
+    Some(PsbtRefusal { fault: names::psbt_fault(name).unwrap_or(PsbtFault::Other), place, line })
 }
 
 /// The report of `inspect`, read; none where it isn't one. Lines that this version doesn't know are passed over.
@@ -312,6 +393,16 @@ fn not_sane(reason: &str) -> Option<NotSane> {
     }
 }
 
+/// How a signature is judged, by this word.
+fn judgement(word: &str) -> Option<Judgement> {
+    match word {
+        "bad" => Some(Judgement::Bad),
+        "high" => Some(Judgement::High),
+        "good" => Some(Judgement::Good),
+        _ => None,
+    }
+}
+
 fn input(lines: &[&str]) -> Option<Input> {
     let (number, state) = state(lines.first()?)?;
     let [txid, index, _, sequence] = words(lines.get(1)?.strip_prefix("outpoint ")?)?;
@@ -324,6 +415,7 @@ fn input(lines: &[&str]) -> Option<Input> {
         amount: amount(lines.get(2)?.strip_prefix("amount ")?)?,
         kind: None,
         signatures: Vec::new(),
+        words: Vec::new(),
         text: None,
         policy: None,
         weight: None,
@@ -335,8 +427,10 @@ fn input(lines: &[&str]) -> Option<Input> {
         match line.split_once(' ').unwrap_or((line, "")) {
             ("kind", rest) => found.kind = Some(rest.to_owned()),
             ("signature", rest) => {
-                let [key, kind] = words(rest)?;
+                let (key, rest) = rest.split_once(' ')?;
+                let (kind, word) = rest.split_once(' ').unwrap_or((rest, ""));
                 found.signatures.push((array(key)?, kind.parse().ok()?));
+                found.words.extend(judgement(word));
             }
             ("text", text) => found.text = Some(text.to_owned()),
             ("policy", policy) => found.policy = Some(policy.to_owned()),
@@ -362,8 +456,11 @@ fn hashes_of(lines: &[&str]) -> Option<Hashes> {
                 asked = Some(Asked { hash_type: kind.parse().ok()?, hash: hash(digits)? });
             }
             Some(("check", rest)) => {
-                let [key, signature, digits] = words(rest)?;
-                checks.push(Check { key: array(key)?, signature: bytes(signature)?, hash: hash(digits)? });
+                let (key, rest) = rest.split_once(' ')?;
+                let (signature, rest) = rest.split_once(' ')?;
+                let (digits, word) = rest.split_once(' ').unwrap_or((rest, ""));
+                let word = judgement(word);
+                checks.push(Check { key: array(key)?, signature: bytes(signature)?, hash: hash(digits)?, word });
             }
             _ => {}
         }

@@ -3,7 +3,7 @@
 //! and against broken ones.
 
 use msat::psbt::{Amount, Fee, Hashes, Inspection, NotSane, State, read_hashes, read_inspection};
-use msat::{Error, PsbtFault};
+use msat::{Error, Judgement, PsbtFault};
 use std::env;
 use std::fmt::Write;
 use std::fs;
@@ -15,6 +15,10 @@ fn hex(bytes: &[u8]) -> String {
 
 fn hash(hash: Option<[u8; 32]>) -> String {
     hash.map_or("-".to_owned(), |it| hex(&it))
+}
+
+fn word(judgement: Option<&Judgement>) -> String {
+    judgement.map_or(String::new(), |it| format!(" {it:?}").to_lowercase())
 }
 
 fn state(state: &State) -> String {
@@ -60,8 +64,8 @@ fn spelled(told: &Inspection) -> Result<String, std::fmt::Error> {
         if let Some(kind) = &input.kind {
             writeln!(lines, "kind {kind}")?;
         }
-        for (key, kind) in &input.signatures {
-            writeln!(lines, "signature {} {kind}", hex(key))?;
+        for (number, (key, kind)) in input.signatures.iter().enumerate() {
+            writeln!(lines, "signature {} {kind}{}", hex(key), word(input.words.get(number)))?;
         }
         let texts = [("text", &input.text), ("policy", &input.policy)];
         for (name, text) in texts.into_iter().filter_map(|(name, it)| it.as_ref().map(|it| (name, it))) {
@@ -92,7 +96,8 @@ fn spelled_hashes(told: &[Hashes]) -> Result<String, std::fmt::Error> {
             writeln!(lines, "{name} {} {}", asked.hash_type, hash(asked.hash))?;
         }
         for check in &input.checks {
-            writeln!(lines, "check {} {} {}", hex(&check.key), hex(&check.signature), hash(check.hash))?;
+            let judged = word(check.word.as_ref());
+            writeln!(lines, "check {} {} {}{judged}", hex(&check.key), hex(&check.signature), hash(check.hash))?;
         }
     }
     Ok(lines)
@@ -119,17 +124,21 @@ fn questions() -> Vec<Question> {
     folders.map(question).collect()
 }
 
+fn spelled_settled(told: &Inspection, question: &Question) -> String {
+    assert_eq!(told.is_settled(), question.status == 0, "{:?}", question.place);
+    spelled(told).expect("lines")
+}
+
 #[test]
 fn every_report_is_read_whole() {
     let (mut read, mut refused) = (0, 0);
     for it in questions() {
         let report = String::from_utf8_lossy(&it.report).into_owned();
         let said = match it.words.as_str() {
-            "inspect" => msat::psbt::inspect(&it.source).map(|told| {
-                assert_eq!(told.is_settled(), it.status == 0, "{:?}", it.place);
-                spelled(&told).expect("lines")
-            }),
+            "inspect" => msat::psbt::inspect(&it.source).map(|told| spelled_settled(&told, &it)),
+            "inspect\n--unverified" => msat::psbt::inspect_unverified(&it.source).map(|told| spelled_settled(&told, &it)),
             "hashes" => msat::psbt::hashes(&it.source).map(|told| spelled_hashes(&told).expect("lines")),
+            "hashes\n--unverified" => msat::psbt::hashes_unverified(&it.source).map(|told| spelled_hashes(&told).expect("lines")),
             _ => continue,
         };
         match said {
@@ -143,6 +152,45 @@ fn every_report_is_read_whole() {
     assert!(env::var_os("MSAT_PSBTS").is_none() || (read > 20 && refused > 5), "{read} reports and {refused} refusals");
 }
 
+/// The PSBTs that the lines of a question are, where each line is one.
+fn parts(source: &[u8]) -> Vec<&[u8]> {
+    let is_blank = |line: &[u8]| line.iter().all(|it| b" \t\r".contains(it));
+    let mut lines: Vec<_> = source.split(|it| *it == b'\n').collect();
+    if lines.last().is_some_and(|it| is_blank(it)) {
+        lines.pop();
+    }
+    if lines.iter().any(|it| is_blank(it)) { Vec::new() } else { lines }
+}
+
+#[test]
+fn parts_become_one_in_the_form_of_the_first() {
+    let (mut made, mut refused) = (0, 0);
+    for it in questions().into_iter().filter(|it| it.words == "combine" && !it.source.starts_with(b"psbt")) {
+        let parts = parts(&it.source);
+        match msat::psbt::combine(&parts) {
+            Ok(one) if parts.len() > 1 => {
+                assert_eq!(one, it.report.trim_ascii_end(), "{:?}", it.place);
+                made += 1;
+            }
+            Ok(one) => assert_eq!(one, it.report.trim_ascii_end(), "{:?}", it.place),
+            Err(_) if parts.is_empty() => refused += 1,
+            Err(error) => assert_eq!((format!("{error}\n").into_bytes(), refused += 1), (it.report, ()), "{:?}", it.place),
+        }
+    }
+    assert!(env::var_os("MSAT_PSBTS").is_none() || (made > 3 && refused > 5), "{made} combined and {refused} refusals");
+}
+
+#[test]
+fn bytes_come_back_as_bytes() {
+    let is_taken = |it: &Question| it.words == "finalize" && it.status != 3 && it.source.starts_with(b"psbt\xff");
+    for it in questions().into_iter().filter(is_taken) {
+        let both = [&it.source[..], &it.source[..]];
+        assert_eq!(msat::psbt::combine(&both).as_ref(), Ok(&it.source), "{:?}", it.place);
+    }
+    let empty: [&[u8]; 1] = [b" \n"];
+    assert_eq!(msat::psbt::combine(&empty), msat::psbt::hashes(b"").map(|_| Vec::new()));
+}
+
 #[test]
 fn broken_reports_are_no_trap() {
     let mut seed = 1_u64;
@@ -152,7 +200,7 @@ fn broken_reports_are_no_trap() {
         seed ^= seed >> 27;
         usize::try_from(seed.wrapping_mul(2_685_821_657_736_338_717) >> 33).unwrap_or(0) % limit.max(1)
     };
-    for it in questions().into_iter().filter(|it| it.words == "inspect" || it.words == "hashes") {
+    for it in questions().into_iter().filter(|it| it.words.starts_with("inspect") || it.words.starts_with("hashes")) {
         for _ in 0..200 {
             let mut bytes = it.report.clone();
             for _ in 0..=below(4) {

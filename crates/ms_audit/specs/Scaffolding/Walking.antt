@@ -6,7 +6,7 @@ use Rattle.def_script.specs.Bytes.{Bytes}
 use Rattle.def_machine.specs.Stacks.{Stack}
 use Rattle.def_machine.specs.Machine.{Given}
 use Rattle.def_tree.specs.Tree.{Tree, Trees, wrap}
-use Rattle.def_tree.specs.Range.{MOST_MEASURE, IsInRange}
+use Rattle.def_tree.specs.InRange.{MOST_MEASURE, IsInRange}
 use Rattle.def_tree.specs.Size.{nodes, nodes_of}
 use Rattle.def_tree.specs.declared.Wrapper.{Wrapper}
 use Rattle.def_satisfaction.specs.Rows.{EMPTY, ONE}

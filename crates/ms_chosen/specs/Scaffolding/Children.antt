@@ -5,7 +5,8 @@ use Rattle.def_tree.specs.Tree as model
 use Rattle.def_tree.specs.Tree.{Key}
 use Rattle.def_assets.specs.Assets.{Assets, sig_of}
 use Rattle.def_choice.specs.Least.{item}
-use Rattle.def_choice.specs.Cheapest.{dissatisfaction, cheapest_of, Child}
+use Rattle.def_choice.specs.Cheapest.{cheapest_of, Child}
+use Rattle.def_choice.specs.Dissatisfaction.{dissatisfaction}
 use Rattle.ms_tree.specs.declared.tree.Tree.{Tree}
 use Rattle.ms_tree.specs.Shape.{shape}
 use Rattle.ms_choice.specs.declared.children.Costs.{Costs}

@@ -5,7 +5,8 @@ use Rattle.def_machine.specs.Stacks.{Stack}
 use Rattle.def_script.specs.Witness.{weight}
 use Rattle.def_tree.specs.Tree.{Tree}
 use Rattle.def_assets.specs.Assets.{Assets}
-use Rattle.def_choice.specs.Cheapest.{Child, cheapest_of, dissatisfaction}
+use Rattle.def_choice.specs.Cheapest.{Child, cheapest_of}
+use Rattle.def_choice.specs.Dissatisfaction.{dissatisfaction}
 use Rattle.ms_choice.specs.declared.children.Costs.{Costs}
 use Rattle.ms_rows.specs.Reading.{Reader, by_letters, ways_in}
 use Rattle.ms_rows.specs.declared.ways.Argument.{Argument}

@@ -1,11 +1,12 @@
 -- What the table of a tree says: of each node, in the order of their numbers, what was weighed of it.
 use Rattle.std.specs.Prelude.{◌≡◌, ℕ, ⊤, List, [], ◌∷◌, ◌++◌, is_some, Option, Some, None}
 use Rattle.def_tree.specs.Tree.{Tree, just_0, just_1, pk_k, pk_h, older, after, hash, and_or, two, thresh, multi, wrap}
-use Rattle.def_tree.specs.Range.{IsInRange}
+use Rattle.def_tree.specs.InRange.{IsInRange}
 use Rattle.def_tree.specs.Size.{nodes}
 use Rattle.def_assets.specs.Assets.{Assets}
 use Rattle.def_tree.specs.Nodes.{all_nodes, nodes_of_all}
-use Rattle.def_choice.specs.Cheapest.{dissatisfaction, Child}
+use Rattle.def_choice.specs.Cheapest.{Child}
+use Rattle.def_choice.specs.Dissatisfaction.{dissatisfaction}
 use Rattle.def_choice.specs.declared.choice.Choice.{Choice as Rule}
 use Rattle.ms_chosen.specs.declared.table.Weighed.{Weighed}
 use Rattle.ms_chosen.specs.declared.table.Entry.{Entry}

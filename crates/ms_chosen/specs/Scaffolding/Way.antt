@@ -6,7 +6,7 @@ use Rattle.def_tree.specs.Size.{nodes}
 use Rattle.def_assets.specs.Assets.{Assets}
 use Rattle.def_satisfaction.specs.Rows.{EMPTY, ONE}
 use Rattle.def_choice.specs.Least.{both, least}
-use Rattle.def_choice.specs.Cheapest.{dissatisfaction}
+use Rattle.def_choice.specs.Dissatisfaction.{dissatisfaction}
 use Rattle.ms_tree.specs.Shape.{shape}
 use Rattle.def_choice.specs.declared.choice.Choice.{Choice as Rule}
 use Rattle.ms_chosen.specs.declared.way.Seen.{Seen}

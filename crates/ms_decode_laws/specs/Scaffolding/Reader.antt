@@ -16,8 +16,8 @@ use Rattle.def_tree.specs.declared.Two.TheVariants as kind
 use Rattle.def_tree.specs.declared.Wrapper.TheVariants as wrapper
 use Rattle.def_tree.specs.Tree as tree
 use Rattle.def_tree.specs.Tree.{Tree, Trees, Key, none, more}
-use Rattle.def_tree.specs.Size.{measure, depth}
-use Rattle.def_tree.specs.Range.{MOST_MEASURE, MOST_DEPTH, TEN_DIGITS}
+use Rattle.def_tree.specs.InRange.{measure, depth, MOST_MEASURE, MOST_DEPTH}
+use Rattle.def_tree.specs.Range.{TEN_DIGITS}
 use Rattle.ms_decode_laws.specs.Scaffolding.Frame.{Frame}
 use Rattle.ms_decode_laws.specs.Scaffolding.Frame as frame
 use Rattle.ms_decode_laws.specs.Scaffolding.Want.{Want}
@@ -79,8 +79,8 @@ pushed fs bytes =
 
 -- the last instruction of an expression that is no `and_v`
 abbrev pub begin_op : List Frame → Op → Option State
-begin_op fs op.Csv = Some (at want.relative fs)
-begin_op fs op.Cltv = Some (at want.absolute fs)
+begin_op fs op.CheckSequenceVerify = Some (at want.relative fs)
+begin_op fs op.CheckLockTimeVerify = Some (at want.absolute fs)
 begin_op fs op.Equal = Some (at want.target fs)
 begin_op fs op.EqualVerify = Some (at want.target (frame.under wrapper.V ∷ fs))
 begin_op fs op.CheckSig = Some (at want.single (frame.under wrapper.C ∷ fs))

@@ -1,6 +1,6 @@
 -- What a choice among the last children of a threshold knows.
 use Rattle.std.specs.Prelude.{◌≡◌, ℕ, zero, suc, ◌+◌, ◌*◌, ◌^◌, ◌<◌, ◌≤◌, List, ◌∷◌, length}
-use Rattle.def_tree.specs.Range.{MOST_MEASURE}
+use Rattle.def_tree.specs.InRange.{MOST_MEASURE}
 use Rattle.def_height.specs.Scaffolding.Highest.{only}
 use Rattle.ms_choice.specs.declared.slot.Slot.{Slot}
 use Rattle.ms_height.specs.declared.highest.Heights.{Heights}

@@ -1,8 +1,7 @@
 -- What the recursion over a tree needs.
 use Rattle.std.specs.Prelude.{ℕ, ◌*◌, ◌≤◌}
 use Rattle.def_tree.specs.Tree.{Tree}
-use Rattle.def_tree.specs.Range.{IsInRange}
-use Rattle.def_tree.specs.Size.{measure}
+use Rattle.def_tree.specs.InRange.{IsInRange, measure}
 use Rattle.def_types.specs.Typed.{IsTyped}
 
 -- the tree is in range, has a correctness type, and has room

@@ -1,6 +1,6 @@
 -- The greatest sums of some numbers, as they come one by one.
 use Rattle.std.specs.Prelude.{◌≡◌, ℕ, ◌+◌, ◌-◌, ◌<◌, ◌≤◌, ◌^◌, ◌⊎◌, min, List, [], ◌∷◌, length, get_or, All, cond, nat_eq}
-use Rattle.def_tree.specs.Range.{MOST_MEASURE}
+use Rattle.def_tree.specs.InRange.{MOST_MEASURE}
 use Rattle.ms_choice.specs.declared.slot.Slot.{Slot}
 use Rattle.ms_height.specs.declared.sums.Top.{Top}
 use Rattle.ms_height.specs.Scaffolding.Kept.{blank}

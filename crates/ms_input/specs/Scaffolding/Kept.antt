@@ -5,10 +5,12 @@ use Rattle.def_script.specs.Witness.{weight}
 use Rattle.def_psbt.specs.Transaction.{TransactionInput}
 use Rattle.def_psbt.specs.Map.{Psbt}
 use Rattle.def_tree.specs.Tree.{Tree}
-use Rattle.def_tree.specs.Range.{IsInRange}
+use Rattle.def_tree.specs.InRange.{IsInRange}
 use Rattle.def_assets.specs.Assets.{Assets}
+use Rattle.def_curve.specs.declared.Judgement.{Judgement}
 use Rattle.def_spend.specs.declared.Kind.{Kind}
 use Rattle.def_spend.specs.declared.State.{State}
+use Rattle.def_spend.specs.declared.Verification.{Verification}
 use Rattle.def_spend.specs.Utxo.{utxo_of, amount_of}
 use Rattle.def_spend.specs.Hashes.{script_in}
 use Rattle.def_spend.specs.Input.{Spend, spends_of}
@@ -16,14 +18,15 @@ use Rattle.def_spend.specs.Kinds.{kind_of}
 use Rattle.def_spend.specs.Reading.{HasReading}
 use Rattle.def_spend.specs.States.{state_of}
 use Rattle.ms_fields.specs.Held.{Held, held_in}
-use Rattle.ms_finalize.specs.Settled.{input_of, assets_in, chosen_in}
+use Rattle.ms_finalize.specs.Settled.{input_of, assets_in, words_in, chosen_in}
 use Rattle.ms_utxo.specs.declared.amount.Amount.{Amount}
 use Rattle.ms_utxo.specs.Spending.{amount_seen}
 use Rattle.ms_input.specs.Seen.{spend_at}
 
 -- where an input stands
-pub record IsAt (psbt : Psbt) (number : ℕ) (spend : Spend) (input : TransactionInput) (held : Held) : Type 0 where
-  pub there : slice_get (spends_of psbt) number ≡ Some spend
+pub record IsAt (verification : Verification) (psbt : Psbt) (number : ℕ) (spend : Spend) (input : TransactionInput) (held : Held) : Type 0 where
+  pub there : slice_get (spends_of verification psbt) number ≡ Some spend
+  pub same_verification : spend.verification ≡ verification
   pub transaction : spend.transaction ≡ psbt.transaction
   pub same_number : spend.number ≡ number
   pub same_input : input ≡ spend.input
@@ -45,8 +48,9 @@ pub record IsFound (spend : Spend) (amount : Amount) (tree : Option Tree) (state
   pub stack_is : stack ≡ chosen_in state (input_of spend tree)
   pub light : IfSome stack (λ items. weight items ≤ 2 ^ 40)
 
-pub record IsRead (psbt : Psbt) (number : ℕ) (input : TransactionInput) (held : Held) (amount : Amount) (kind : Kind) (script : Bytes)
-    (tree : Option Tree) (state : State) (assets : Option Assets) (stack : Option (List Bytes)) : Type 0 where
-  pub at : IsAt psbt number (spend_at psbt number) input held
-  pub guarded : IsGuarded (spend_at psbt number) kind script
-  pub found : IsFound (spend_at psbt number) amount tree state assets stack
+pub record IsRead (verification : Verification) (psbt : Psbt) (number : ℕ) (input : TransactionInput) (held : Held) (amount : Amount) (kind : Kind) (script : Bytes)
+    (tree : Option Tree) (state : State) (assets : Option Assets) (words : Option (List Judgement)) (stack : Option (List Bytes)) : Type 0 where
+  pub at : IsAt verification psbt number (spend_at verification psbt number) input held
+  pub guarded : IsGuarded (spend_at verification psbt number) kind script
+  pub found : IsFound (spend_at verification psbt number) amount tree state assets stack
+  pub words_are : words ≡ words_in state (spend_at verification psbt number)

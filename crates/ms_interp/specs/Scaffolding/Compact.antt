@@ -88,8 +88,8 @@ act given op.CheckSig m = on_checks (check_sig given.checker) m
 act given op.CheckSigVerify m = on_checks (check_sig given.checker) m >>= on_main verify
 act given op.CheckMultiSig m = on_multi (check_multi_sig given.checker) m
 act given op.CheckMultiSigVerify m = on_multi (check_multi_sig given.checker) m >>= on_main verify
-act given op.Cltv m = on_main (lock (λ n. after_holds n given.locks)) m
-act given op.Csv m = on_main (lock (λ n. older_holds n given.locks)) m
+act given op.CheckLockTimeVerify m = on_main (lock (λ n. after_holds n given.locks)) m
+act given op.CheckSequenceVerify m = on_main (lock (λ n. older_holds n given.locks)) m
 
 abbrev pub only_if : Bool → (Machine → OrFault Machine) → Machine → OrFault Machine
 only_if true next m = next m

@@ -5,7 +5,8 @@ use Rattle.def_tree.specs.Tree.{Tree}
 use Rattle.def_policy.specs.Print.{printed as printed_policy}
 use Rattle.def_psbt.specs.Transaction.{Transaction}
 use Rattle.def_spend.specs.declared.State.{State}
-use Rattle.def_spend.specs.Input.{Spend, assets_of}
+use Rattle.def_spend.specs.Good.{assets_of}
+use Rattle.def_spend.specs.Input.{Spend}
 use Rattle.def_spend.specs.Reading.{Input}
 use Rattle.def_spend.specs.States.{state_of, is_read, is_sane, stack_of}
 use Rattle.def_spend.specs.Asking.{plan_with}

@@ -9,7 +9,7 @@ use Rattle.def_script.specs.Bytes.{Bytes}
 use Rattle.def_script.specs.Instruction.{Instruction, code}
 use Rattle.def_tree.specs.Tree as tree
 use Rattle.def_tree.specs.Tree.{Tree, Key}
-use Rattle.ms_hash.specs.declared.value.HashVal.{HashVal}
+use Rattle.ms_hash.specs.declared.value.HashValue.{HashValue}
 use Rattle.ms_hash.specs.Value.{kind_of, bytes_of}
 use Rattle.ms_tree.specs.declared.tree.Leaf.{Leaf}
 use Rattle.ms_tree.specs.Shape.{leaf_shape}
@@ -25,7 +25,7 @@ digest_in kind bytes = if length bytes == digest_length kind then Some bytes els
 abbrev pub hash_tree : HashKind → Bytes → Option Tree
 hash_tree kind bytes = if length bytes == digest_length kind then Some (tree.hash kind bytes) else None
 
-abbrev pub hash_lock : Option HashVal → Option Tree
+abbrev pub hash_lock : Option HashValue → Option Tree
 hash_lock None = None
 hash_lock (Some value) = Some (tree.hash (kind_of value) (bytes_of value))
 

@@ -1,9 +1,9 @@
 -- What is known of a tree before its satisfactions are counted.
 use Rattle.std.specs.Prelude.{◌≡◌, ◌*◌, ◌≤◌, Ok, length}
 use Rattle.def_tree.specs.Tree.{Tree}
-use Rattle.def_tree.specs.Size.{measure}
+use Rattle.def_tree.specs.InRange.{measure}
 use Rattle.def_types.specs.declared.Base.TheVariants.{B}
-use Rattle.def_types.specs.Corr.{corr}
+use Rattle.def_types.specs.Correctness.{correctness_of}
 use Rattle.def_emit.specs.Emit.{emit, script_of}
 use Rattle.def_script.specs.Instruction.{opcode_count}
 use Rattle.def_sane.specs.declared.Rules.{Rules}
@@ -19,7 +19,7 @@ pub record IsExtent (tree : Tree) (extent : Extent) : Type 0 where
 
 -- it has this type, its top is B, and its Script comes to this and isn't too large under these rules
 pub record IsShortOf (rules : Rules) (tree : Tree) (short : Short) : Type 0 where
-  pub typed : corr tree ≡ Ok short.ty
+  pub typed : correctness_of tree ≡ Ok short.ty
   pub top : short.ty.base ≡ B
   pub extent : IsExtent tree short.extent
   pub size : short.extent.bytes ≤ size_limit rules

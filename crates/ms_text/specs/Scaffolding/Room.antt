@@ -2,8 +2,8 @@
 use Rattle.std.specs.Prelude.{◌+◌, ◌≤◌, ◌<◌, ℕ, ◌*◌}
 use Rattle.def_script.specs.Bytes.{Bytes}
 use Rattle.def_tree.specs.Tree.{Tree, Trees}
-use Rattle.def_tree.specs.Size.{measure, depth, measure_of, depth_of}
-use Rattle.def_tree.specs.Range.{IsWritable, AreWritable, count, MOST_MEASURE, MOST_DEPTH}
+use Rattle.def_tree.specs.InRange.{measure, depth, measure_of, depth_of, MOST_MEASURE, MOST_DEPTH}
+use Rattle.def_tree.specs.Range.{IsWritable, AreWritable, count}
 use Rattle.ms_text.specs.Scaffolding.Place.{IsPlace}
 
 -- for two nodes, of which one stands above it

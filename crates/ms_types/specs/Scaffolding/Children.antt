@@ -1,11 +1,11 @@
 -- What is known of the children of a threshold, one after the other.
 use Rattle.std.specs.Prelude.{◌+◌, ◌&&◌, ◌||◌, nat_eq, List, length, if◌then◌else◌}
-use Rattle.def_types.specs.declared.Ty.{Ty}
-use Rattle.def_types.specs.Corr.{is_b, is_w, first_fits, others_fit, all_z, all_z_but_one}
+use Rattle.def_types.specs.declared.CorrectnessType.{CorrectnessType}
+use Rattle.def_types.specs.Correctness.{is_b, is_w, first_fits, others_fit, all_z, all_z_but_one}
 use Rattle.ms_types.specs.declared.children.Children.{Children}
 
 -- of the children of these types
-abbrev pub seen : List Ty → Children
+abbrev pub seen : List CorrectnessType → Children
 seen types = record {
   count = length types;
   first_fits = first_fits types;
@@ -15,7 +15,7 @@ seen types = record {
 }
 
 -- with one child more
-abbrev pub and : Children → Ty → Children
+abbrev pub and : Children → CorrectnessType → Children
 and s x = record {
   count = s.count + 1;
   first_fits = if nat_eq s.count 0 then is_b x.base && x.d && x.u else s.first_fits;

@@ -4,7 +4,8 @@ use Rattle.std.proofs.Props.{props}
 use Rattle.def_hash.specs.declared.HashKind.{HashKind}
 use Rattle.def_script.specs.Bytes.{Bytes}
 use Rattle.def_tree.specs.Tree.{Tree, Trees, Key, just_0, just_1, pk_k, pk_h, older, after, hash, and_or, two, thresh, multi, wrap, none, more}
-use Rattle.def_tree.specs.Range.{IsKey, IsDigest, IsWritable, AreWritable, IsInRange}
+use Rattle.def_tree.specs.Range.{IsKey, IsDigest, IsWritable, AreWritable}
+use Rattle.def_tree.specs.InRange.{IsInRange}
 
 IsKey-prop : (key : Key) → IsProp (IsKey key)
 IsKey-prop key = hlevel props

@@ -1,8 +1,7 @@
 -- What a recursion over a tree needs that writes at most one slot for each child of a threshold.
 use Rattle.std.specs.Prelude.{ℕ, ◌≤◌, List, length, All}
 use Rattle.def_tree.specs.Tree as model
-use Rattle.def_tree.specs.Range.{MOST_MEASURE, IsInRange}
-use Rattle.def_tree.specs.Size.{measure, measure_of}
+use Rattle.def_tree.specs.InRange.{MOST_MEASURE, IsInRange, measure, measure_of}
 use Rattle.def_types.specs.Typed.{IsTyped}
 use Rattle.ms_tree.specs.declared.tree.Tree.{Tree}
 use Rattle.ms_tree.specs.Shape.{shape, shapes}

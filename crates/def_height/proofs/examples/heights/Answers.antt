@@ -5,12 +5,12 @@ use Rattle.def_tree.specs.Tree.{just_0}
 use Rattle.def_types.specs.Samples.{KEY_B, pk}
 use Rattle.def_sane.specs.Allowed.{keys_101, keys_201, largest}
 use Rattle.def_limits.specs.Examples.{key_chain_of_three, two_of_three, hashes_or_keys, key_or_hashes, keys_and_lock, hash_or_key}
-use Rattle.def_types.proofs.Rows.{corr_rows}
+use Rattle.def_types.proofs.Rows.{correctness_rows}
 use Rattle.def_height.specs.Examples.{key_or_key_hash, key_and_lock, key_or_two_hashes}
 use Rattle.def_height.proofs.Found.{height_by}
 
 pub returns : goal.returns
-unfolding corr_rows
+unfolding correctness_rows
 returns c = record {
   key_height = height_by (pk KEY_B) 2 refl refl;
   chain_height = height_by key_chain_of_three 4 refl refl;

@@ -11,7 +11,7 @@ use Rattle.def_script.specs.Bytes.{Bytes, IsBytes}
 use Rattle.def_machine.specs.Samples.{key_a, key_b, sig_a, sig_b}
 use Rattle.def_machine.specs.Stacks.{Stack, Pairs, member, is_empty}
 use Rattle.def_types.specs.Typed.{IsTyped}
-use Rattle.def_types.proofs.Rows.{corr_rows, mall_rows}
+use Rattle.def_types.proofs.Rows.{correctness_rows, malleability_rows}
 use Rattle.def_machine.specs.Run.{run, accepted}
 use Rattle.def_tree.specs.Tree.{Tree, hash}
 use Rattle.def_tree.specs.Range.{IsKey, IsWritable}
@@ -90,11 +90,11 @@ unfolding computing
 run_by_key = refl
 
 has_type : IsTyped key_and_key_or_hashes
-unfolding the_limits limits_exist computing corr_rows mall_rows
+unfolding the_limits limits_exist computing correctness_rows malleability_rows
 has_type = let means = (valid_means_under Consensus key_and_key_or_hashes).0 refl in means.0
 
 pub returns-clause-acceptance : goal.returns-clause-acceptance
-unfolding the_limits limits_exist computing corr_rows mall_rows
+unfolding the_limits limits_exist computing correctness_rows malleability_rows
 returns-clause-acceptance c =
     let r = right_branch in
     record {
@@ -129,7 +129,7 @@ accepted_by_preimages : IsAccepted key_and_key_or_hashes (given_of keys_and_prei
 accepted_by_preimages = record { ops = 17; peak = 6; run = run_by_preimages }
 
 pub returns-clause-strict : goal.returns-clause-strict
-unfolding the_limits limits_exist computing corr_rows mall_rows
+unfolding the_limits limits_exist computing correctness_rows malleability_rows
 returns-clause-strict c = record {
   sane = refl;
   chosen = refl;
@@ -216,7 +216,7 @@ fresh = (
 )
 
 pub returns-clause-nothing : goal.returns-clause-nothing
-unfolding the_limits limits_exist computing corr_rows mall_rows
+unfolding the_limits limits_exist computing correctness_rows malleability_rows
 returns-clause-nothing c = record {
   assets = only_b_form;
   none = refl;
@@ -226,22 +226,22 @@ returns-clause-nothing c = record {
 }
 
 pub returns-clause-key_has_letters : goal.returns-clause-key_has_letters
-unfolding the_limits limits_exist computing corr_rows mall_rows
-returns-clause-key_has_letters c = (record { writable = key_a_form; valid = refl; among = (1, omega arith, refl); corr = refl; mall = refl }, (sig_a, refl, refl), refl)
+unfolding the_limits limits_exist computing correctness_rows malleability_rows
+returns-clause-key_has_letters c = (record { writable = key_a_form; valid = refl; among = (1, omega arith, refl); correctness_of = refl; malleability_of = refl }, (sig_a, refl, refl), refl)
 
 pub returns-clause-one_has_letters : goal.returns-clause-one_has_letters
-unfolding the_limits limits_exist computing corr_rows mall_rows
-returns-clause-one_has_letters c = (record { writable = tt; valid = refl; among = (0, omega arith, refl); corr = refl; mall = refl }, refl)
+unfolding the_limits limits_exist computing correctness_rows malleability_rows
+returns-clause-one_has_letters c = (record { writable = tt; valid = refl; among = (0, omega arith, refl); correctness_of = refl; malleability_of = refl }, refl)
 
 chain_writable : (n : ℕ) → IsWritable (chain n)
 chain_writable zero = key_a_form
 chain_writable (suc n) = (chain_writable n, tt)
 
 pub returns-clause-deep_has_letters : goal.returns-clause-deep_has_letters
-unfolding the_limits limits_exist corr_rows mall_rows
+unfolding the_limits limits_exist correctness_rows malleability_rows
 returns-clause-deep_has_letters c = record {
   deep = omega arith;
-  letters = record { writable = chain_writable 150; valid = refl; among = (451, omega arith, refl); corr = refl; mall = refl };
+  letters = record { writable = chain_writable 150; valid = refl; among = (451, omega arith, refl); correctness_of = refl; malleability_of = refl };
 }
 
 -- the tree, where it is a hash, can be missed
@@ -304,7 +304,7 @@ only_long key sig h =
     ap length (sym ((bytes_eq-Decides (replicate 73 0xaa) sig).0 both.1))
 
 pub returns-clause-longest : goal.returns-clause-longest
-unfolding the_limits limits_exist computing corr_rows mall_rows
+unfolding the_limits limits_exist computing correctness_rows malleability_rows
 returns-clause-longest c = record {
   writable = key_a_form;
   valid = refl;

@@ -1,17 +1,17 @@
 use Rattle.def_types.proofs.laws.types.Goals as goal
-use Rattle.def_types.proofs.Typing.{corr_is_every, corr_is_first, mall_is_every, mall_is_first, typed_means, non_malleable_means}
+use Rattle.def_types.proofs.Typing.{correctness_is_every, correctness_is_first, malleability_is_every, malleability_is_first, typed_means, non_malleable_means}
 
-pub returns-clause-corr : goal.returns-clause-corr
-returns-clause-corr c = corr_is_every
+pub returns-clause-correctness_of : goal.returns-clause-correctness_of
+returns-clause-correctness_of c = correctness_is_every
 
-pub returns-clause-corr_first : goal.returns-clause-corr_first
-returns-clause-corr_first c = corr_is_first
+pub returns-clause-correctness_first : goal.returns-clause-correctness_first
+returns-clause-correctness_first c = correctness_is_first
 
-pub returns-clause-mall : goal.returns-clause-mall
-returns-clause-mall c = mall_is_every
+pub returns-clause-malleability_of : goal.returns-clause-malleability_of
+returns-clause-malleability_of c = malleability_is_every
 
-pub returns-clause-mall_first : goal.returns-clause-mall_first
-returns-clause-mall_first c = mall_is_first
+pub returns-clause-malleability_first : goal.returns-clause-malleability_first
+returns-clause-malleability_first c = malleability_is_first
 
 pub returns-clause-typed : goal.returns-clause-typed
 returns-clause-typed c = typed_means

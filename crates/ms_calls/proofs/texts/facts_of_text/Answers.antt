@@ -19,6 +19,6 @@ returns c =
     let offsets = c.args.text.now.offsets.items in
     subst (λ tree. unless_unfit (first_unfit_under c.args.rules (shape tree)) offsets (told (facts_of (shape tree))) ≡ told c.new.result)
     c.in_ok-sane.ensures.tree
-    (known_facts c.args.rules (shape sane.valid.tree) sane.valid.ty sane.mall sane.valid.limits c.height-height.result offsets c.new.result
+    (known_facts c.args.rules (shape sane.valid.tree) sane.valid.ty sane.malleability_of sane.valid.limits c.height-height.result offsets c.new.result
     (subst (λ tree. IsSaneUnder c.args.rules (shape tree)) (sym c.in_ok-sane.ensures.tree) c.in_ok-sane.ensures.sane)
-    sane.valid.typed sane.mall_typed sane.valid.limited c.height-height.ensures.height c.new.ensures)
+    sane.valid.typed sane.malleability_typed sane.valid.limited c.height-height.ensures.height c.new.ensures)

@@ -2,7 +2,8 @@ use Rattle.std.proofs.Common.{◌≡◌, ◌-◌, ◌++◌, map, take, drop, is_
 use Rattle.def_tree.specs.Tree as model
 use Rattle.def_tree.specs.Size.{nodes}
 use Rattle.def_tree.specs.Nodes.{all_nodes, nodes_of_all}
-use Rattle.def_choice.specs.Cheapest.{dissatisfaction, all_dissatisfied, stack_of}
+use Rattle.def_choice.specs.Cheapest.{all_dissatisfied, stack_of}
+use Rattle.def_choice.specs.Dissatisfaction.{dissatisfaction}
 use Rattle.ms_tree.specs.declared.tree.Tree.{Tree}
 use Rattle.ms_tree.specs.Shape.{shape, shapes}
 use Rattle.ms_tree.proofs.Parts.{nodes_at}

@@ -1,5 +1,6 @@
 use Rattle.std.proofs.Common.{◌∙◌, sym, arith}
-use Rattle.def_choice.specs.Cheapest.{cheapest_of, dissatisfaction}
+use Rattle.def_choice.specs.Cheapest.{cheapest_of}
+use Rattle.def_choice.specs.Dissatisfaction.{dissatisfaction}
 use Rattle.ms_tree.specs.Shape.{shape}
 use Rattle.ms_chosen.proofs.Valid.{weight_of-reverse, typed_valid}
 use Rattle.ms_chosen.proofs.weigh.least_costs.Goals as goal

@@ -1,5 +1,6 @@
 -- A key more, a token more, the end, and a key that is refused.
 use Rattle.std.proofs.Common.{◌≡◌, ℕ, suc, ◌+◌, ◌-◌, ◌<◌, List, [], ◌∷◌, ◌++◌, length, length-append, map, arith, sym, ap, subst, ◌∙◌}
+use Rattle.std.proofs.lemmas.List.Elements.{All-push}
 use Rattle.def_descriptor.specs.ReadKey.{Seen, seen_with}
 use Rattle.def_descriptor.specs.Pieces.{Piece, plain, key, Spot, spot_behind, spot_behind_key, opened, gather}
 use Rattle.ms_paths.specs.Places.{IsPlace, tokens_at}
@@ -7,7 +8,7 @@ use Rattle.ms_descriptor.specs.declared.expression.Expression.{Expression as Own
 use Rattle.ms_descriptor.specs.declared.pieces.Piece.TheVariants as own
 use Rattle.ms_descriptor.specs.declared.pieces.Next.TheVariants as next
 use Rattle.ms_descriptor.specs.Expressions.{expression_at, seen_at, spot_at}
-use Rattle.ms_descriptor.specs.Miniscripts.{between, piece_at, IsNext}
+use Rattle.ms_descriptor.specs.Miniscripts.{between, piece_at, IsWithin, AreWithin, IsNext}
 use Rattle.ms_descriptor.proofs.Gathering.{before, step_key, step_token, step_end, step_refused, key_after, token_after, opened_up, pieces_push}
 use Rattle.ms_descriptor.proofs.pieces.gather.Goals as goal
 
@@ -23,9 +24,11 @@ loop-pieces-preserved-in-Key c =
     let rest = tokens_at text c.in-Key.end in
     let found : IsNext text at spot c.loop-pieces.level seen (next.Key c.in-Key.expression c.in-Key.end) =
     subst (IsNext text at spot c.loop-pieces.level seen) c.in-Key.is c.in_ok-expression.ensures.next in
-    let after : IsPlace text c.in-Key.end × at < c.in-Key.end = key_after text at spot c.loop-pieces.level seen c.in-Key.expression c.in-Key.end found in
+    let after : IsPlace text c.in-Key.end × at < c.in-Key.end × (c.in-Key.expression.at ≡ at) = key_after text at spot c.loop-pieces.level seen c.in-Key.expression c.in-Key.end found in
     let p = own.Key c.in_ok-new-in-Key.field-0 in
     let pushed : c.push.new.self.items ≡ items ++ p ∷ [] = c.in_ok-push-in-Key.ensures.items in
+    let same : c.in_ok-new-in-Key.field-0.value.at ≡ at = ap (λ (z : OwnExpression). z.at) c.in_ok-new-in-Key.ensures.ok ∙ after.2 in
+    let own_place : IsWithin text p = omega (arith, same, c.loop-pieces.invariant.place.within) in
     let count : length c.push.new.self.items ≡ length items + 1 = omega (arith, ap length pushed, length-append items (p ∷ [])) in
     let most : ℕ = suc (length text) - length c.push.new.self.items in
     let one : suc (length text) - length items ≡ suc most = omega (arith, count, after.0.within, after.1, c.loop-pieces.invariant.count) in
@@ -35,6 +38,7 @@ loop-pieces-preserved-in-Key c =
     ∙ ap (λ (z : OwnExpression). ps ++ key (expression_at z) ∷ []) c.in_ok-new-in-Key.ensures.ok) in
     record {
       place = after.0;
+      within = subst (AreWithin text) (sym pushed) (All-push (IsWithin text) items p c.loop-pieces.invariant.within own_place);
       count = omega (arith, count, after.1, c.loop-pieces.invariant.count);
       level = omega (arith, after.1, c.loop-pieces.invariant.level);
       pieces =
@@ -63,12 +67,14 @@ loop-pieces-preserved c =
     let after : IsPlace text c.in-Token.end × at < c.in-Token.end = token_after text at spot c.loop-pieces.level seen c.in-Token.end found in
     let p = own.Plain at c.in-Token.end in
     let pushed : c.push-in-Token.new.self.items ≡ items ++ p ∷ [] = c.in_ok-push-in-Token.ensures.items in
+    let own_place : IsWithin text p = (after.1, omega (arith, after.0.within)) in
     let count : length c.push-in-Token.new.self.items ≡ length items + 1 = omega (arith, ap length pushed, length-append items (p ∷ [])) in
     let most : ℕ = suc (length text) - length c.push-in-Token.new.self.items in
     let one : suc (length text) - length items ≡ suc most = omega (arith, count, after.0.within, after.1, c.loop-pieces.invariant.count) in
     let grown : map (piece_at text) c.push-in-Token.new.self.items ≡ ps ++ plain at w ∷ [] = ap (map (piece_at text)) pushed ∙ pieces_push text items p in
     record {
       place = after.0;
+      within = subst (AreWithin text) (sym pushed) (All-push (IsWithin text) items p c.loop-pieces.invariant.within own_place);
       count = omega (arith, count, after.1, c.loop-pieces.invariant.count);
       level = omega (arith, after.1, c.loop-pieces.invariant.level, opened_up c.loop-pieces.level w, c.opened-level.ensures);
       pieces =

@@ -1,6 +1,7 @@
 -- Twice the number of nodes, and one more for several parts.
 use Rattle.std.proofs.Common.{◌≡◌, ◌≤◌, ◌+◌, ◌*◌, ◌++◌, drop, take, map}
-use Rattle.def_tree.specs.Size.{nodes, nodes_of, measure_of}
+use Rattle.def_tree.specs.Size.{nodes, nodes_of}
+use Rattle.def_tree.specs.InRange.{measure_of}
 use Rattle.ms_tree.specs.Shape.{shape, shapes}
 use Rattle.ms_mixing.specs.Scaffolding.Repeats.{entry, held_in}
 use Rattle.ms_mixing.proofs.keys.+copy.Given as goal

@@ -1,6 +1,6 @@
 -- Twice the measure of the tree, and one more for a tree that is taken apart.
 use Rattle.std.proofs.Common.{◌≡◌, ◌+◌, ◌*◌, ◌++◌, drop, map}
-use Rattle.def_tree.specs.Size.{measure, measure_of}
+use Rattle.def_tree.specs.InRange.{measure, measure_of}
 use Rattle.def_policy.specs.Plain.{plain_each}
 use Rattle.def_policy.specs.Simple.{simple_each}
 use Rattle.ms_tree.specs.Shape.{shape, shapes}

@@ -1,6 +1,5 @@
 use Rattle.std.proofs.Common.{◌<◌, length, ap, sym, subst, arith}
-use Rattle.def_tree.specs.Range.{IsInRange}
-use Rattle.def_tree.specs.Size.{measure}
+use Rattle.def_tree.specs.InRange.{IsInRange, measure}
 use Rattle.ms_tree.specs.declared.tree.Tree.{Tree}
 use Rattle.ms_tree.specs.Shape.{shape}
 use Rattle.ms_tree.proofs.Parts.{measure-child}

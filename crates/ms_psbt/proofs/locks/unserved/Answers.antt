@@ -12,8 +12,8 @@ returns-then-both c = λ at inputs placed.
     let place = get_or c.args.places.now c.loop-place.place-index 0 in
     let n = next_map (input_rules version.Two) c.args.psbt.now c.args.places.now c.loop-place.place-index _ (c.loop-place.invariant at inputs placed) c.loop-place-test.true in
     let map_is = whole_is_map (input_rules version.Two) c.args.psbt.now place (n.map, n.here.end) n.here.read in
-    let time = c.either-time.ensures ∙ ap (λ b. c.loop-place.time || b) (c.has_lock-has_time.ensures (input_form version.Two) (n.map, n.here.end) map_is) in
-    let height = c.either-height.ensures ∙ ap (λ b. c.loop-place.height || b) (c.has_lock-has_height.ensures (input_form version.Two) (n.map, n.here.end) map_is) in
+    let time = c.either-time.ensures ∙ ap (λ b. c.loop-place.time || b) (c.locks_alone-alone.ensures.time (input_form version.Two) (n.map, n.here.end) map_is) in
+    let height = c.either-height.ensures ∙ ap (λ b. c.loop-place.height || b) (c.locks_alone-alone.ensures.height (input_form version.Two) (n.map, n.here.end) map_is) in
     unserved_here c.loop-place.time c.loop-place.height c.either-time.result c.either-height.result place n.map n.rest time height (sym c.both.ensures ∙ c.if-both.true) ∙ n.said
 
 pub loop-place-preserved : goal.loop-place-preserved
@@ -21,8 +21,8 @@ loop-place-preserved c = λ start inputs placed.
     let place = get_or c.args.places.now c.loop-place.place-index 0 in
     let n = next_map (input_rules version.Two) c.args.psbt.now c.args.places.now c.loop-place.place-index _ (c.loop-place.invariant start inputs placed) c.loop-place-test.true in
     let map_is = whole_is_map (input_rules version.Two) c.args.psbt.now place (n.map, n.here.end) n.here.read in
-    let time = c.either-time.ensures ∙ ap (λ b. c.loop-place.time || b) (c.has_lock-has_time.ensures (input_form version.Two) (n.map, n.here.end) map_is) in
-    let height = c.either-height.ensures ∙ ap (λ b. c.loop-place.height || b) (c.has_lock-has_height.ensures (input_form version.Two) (n.map, n.here.end) map_is) in
+    let time = c.either-time.ensures ∙ ap (λ b. c.loop-place.time || b) (c.locks_alone-alone.ensures.time (input_form version.Two) (n.map, n.here.end) map_is) in
+    let height = c.either-height.ensures ∙ ap (λ b. c.loop-place.height || b) (c.locks_alone-alone.ensures.height (input_form version.Two) (n.map, n.here.end) map_is) in
     record {
       at = place + length (map_text n.map);
       maps = n.rest;

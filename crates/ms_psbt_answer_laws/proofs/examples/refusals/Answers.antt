@@ -7,6 +7,6 @@ use Rattle.ms_psbt_answer_laws.proofs.examples.refusals.Goals as goal
 pub returns : goal.returns
 unfolding psbt_answers_on_literals
 returns c = record {
-  no_form = (answered refl refl, answered refl refl, answered refl refl);
+  no_form = (answered refl refl, answered refl refl, answered refl refl, answered refl refl, answered refl refl);
   refused = (answered refl refl, answered refl refl, answered refl refl);
 }

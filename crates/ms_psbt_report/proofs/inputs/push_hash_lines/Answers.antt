@@ -7,5 +7,5 @@ returns c =
     let spend = c.args.input.now.spend in
     on_ok_weaker c.push_checks.result
     (hashed spend c.asked_type-asked.result c.hash_by.result c.signatures.result.now _ _ _ c.asked_type-asked.ensures
-    (c.hash_by.ensures spend c.requires) c.signatures.ensures c.in_ok-push_sign_line.ensures)
-    (c.push_checks.ensures spend c.requires)
+    (c.hash_by.ensures spend c.requires.table) c.signatures.ensures c.in_ok-push_sign_line.ensures)
+    (c.push_checks.ensures spend c.signatures.ensures c.requires.table c.words_of-words.ensures)

@@ -12,7 +12,7 @@ returns-clause-report c inputs are =
     let told = c.in_ok-told.ensures inputs are in
     let own = c.unsigned_transaction-transaction.ensures.transaction in
     let count = c.input_count-count.ensures.inputs in
-    let long = count_inputs c.args.psbt.now inputs c.input_count-count.result are c.input_count-count.ensures.maps count in
+    let long = count_inputs c.args.verification c.args.psbt.now inputs c.input_count-count.result are c.input_count-count.ensures.maps count in
     let all = length-map inputs (λ (i : Input). i.spend) ∙ long ∙ count ∙ sym (ap (λ (t : Transaction). length t.inputs) own) in
     c.in_ok-with_money.ensures
     ∙ whole_report c.unsigned_transaction-transaction.result inputs c.in_ok-told.told c.finish.result told

@@ -1,7 +1,7 @@
 use Rattle.std.proofs.Common.{sym, ap, ◌∙◌}
 use Rattle.std.proofs.lemmas.Result.{on_ok_weaker}
 use Rattle.def_plan.specs.Plan.{Plan}
-use Rattle.def_spend.specs.Input.{assets_of}
+use Rattle.def_spend.specs.Good.{assets_of}
 use Rattle.ms_psbt_report.proofs.InputLines.{told_plan}
 use Rattle.ms_psbt_report.proofs.trees.push_plan.Goals as goal
 

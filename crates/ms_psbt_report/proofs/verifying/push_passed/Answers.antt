@@ -2,7 +2,7 @@ use Rattle.std.proofs.Common.{◌∙◌, ap}
 use Rattle.std.proofs.lemmas.Result.{on_ok_weaker}
 use Rattle.ms_verify.specs.Asked.{judged_from}
 use Rattle.ms_verify.proofs.Checks.{judged_is}
-use Rattle.ms_psbt_report.proofs.Verdicts.{passed_told}
+use Rattle.ms_psbt_report.proofs.Validity.{passed_told}
 use Rattle.ms_psbt_report.proofs.verifying.push_passed.Goals as goal
 
 pub returns : goal.returns
@@ -13,4 +13,4 @@ returns c spend h =
     c.judged-judgement.ensures ∙ ap (λ k. judged_from check k c.sig.result.now) c.key.ensures ∙ ap (judged_from check pair.0) c.sig.ensures
     ∙ judged_is spend check pair.0 pair.1 h
     in
-    on_ok_weaker c.push_passed_line.result (λ e. e ∙ passed_told _ c.key-2.ensures c.sig-2.ensures word) c.push_passed_line.ensures
+    on_ok_weaker c.push_signature_line.result (λ e. e ∙ passed_told _ c.key-2.ensures c.sig-2.ensures word) c.push_signature_line.ensures

@@ -1,7 +1,7 @@
 use Rattle.std.proofs.Common.{◌≤◌, length, arith}
 use Rattle.def_psbt_answer.specs.Verified.{passed_line}
 use Rattle.ms_psbt_report.proofs.InputLines.{no_more}
-use Rattle.ms_psbt_report.proofs.Verdicts.{one_passed}
+use Rattle.ms_psbt_report.proofs.Validity.{one_passed}
 use Rattle.ms_psbt_report.proofs.verifying.push_passed_lines.Goals as goal
 
 pub loop-pair-preserved : goal.loop-pair-preserved

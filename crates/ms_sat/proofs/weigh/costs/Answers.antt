@@ -1,7 +1,8 @@
 use Rattle.std.proofs.Common.{reverse}
 use Rattle.std.specs.Option.{option_map}
 use Rattle.def_satisfaction.specs.Satisfaction.{Sat, Dsat}
-use Rattle.def_choice.specs.Cheapest.{cheapest, dissatisfaction}
+use Rattle.def_choice.specs.Cheapest.{cheapest}
+use Rattle.def_choice.specs.Dissatisfaction.{dissatisfaction}
 use Rattle.def_choice.proofs.Chosen.{cheapest_is_lightest, dissatisfaction_is_lightest}
 use Rattle.ms_tree.specs.Shape.{shape}
 use Rattle.ms_sat.proofs.Lightest.{least_weight}

@@ -1,5 +1,6 @@
 use Rattle.ms_io.specs.Sides.{call, side}
 use Rattle.psbt_cli.specs.Ends.{Call}
+use Rattle.psbt_cli.proofs.Alike.{answers_alike, compares_forms}
 use Rattle.psbt_cli.proofs.Ending.{ends, ends_as_usage, ends_as_answered, write_fault_rose, read_fault_rose, was_read}
 use Rattle.psbt_cli.proofs.Promising.{ReadyLaws, shows_witnesses, tells_lacking, loses_nothing, extracts_transaction, CombineLaws, combines_parts}
 use Rattle.psbt_cli.proofs.Showing.{shows_finalized, shows_inspected, shows_extracted, shows_hashes, shows_verified, refuses_source, shows_combined}
@@ -58,6 +59,7 @@ returns-clause-witnesses g c =
       canonical = c.ready.ensures.canonical;
       witness = c.ready.ensures.witness;
       accepted = c.ready.ensures.accepted;
+      consensus = c.verified.ensures.accepted;
       unchangeable = c.ready.ensures.unchangeable;
       tight = c.ready.ensures.tight;
       lightest = c.ready.ensures.lightest;
@@ -70,6 +72,12 @@ returns-clause-lacking g c =
 
 pub returns-clause-nothing_lost : goal.returns-clause-nothing_lost
 returns-clause-nothing_lost g c = loses_nothing c.written.ensures.source c.written.ensures.again (this g c) (returns-clause-end g c)
+
+pub returns-clause-alike : goal.returns-clause-alike
+returns-clause-alike g c = answers_alike c.verified.ensures.all_good (this g c) (returns-clause-end g c)
+
+pub returns-clause-compared : goal.returns-clause-compared
+returns-clause-compared g c = compares_forms c.verified.ensures.all_good c.verified.ensures.differ (this g c) (returns-clause-end g c)
 
 pub returns-clause-transaction : goal.returns-clause-transaction
 returns-clause-transaction g c = extracts_transaction c.network.ensures.read c.network.ensures.told (this g c) (returns-clause-end g c)

@@ -1,5 +1,5 @@
 use Rattle.std.proofs.Common.{◌≡◌, ◌-◌, ◌<◌, ℕ, List, ◌∷◌, length}
-use Rattle.def_tree.specs.Range.{MOST_MEASURE}
+use Rattle.def_tree.specs.InRange.{MOST_MEASURE}
 use Rattle.ms_height.specs.Scaffolding.Tops.{IsRising, IsTop}
 use Rattle.ms_height.proofs.sums.Top.add.Given as goal
 

@@ -9,5 +9,5 @@ use Rattle.ms_input.proofs.input.Input.final_script_sig.Goals as goal
 pub returns : goal.returns
 returns c =
     let i = c.self.inside in
-    let at = subst (λ (s : Seen). IsAt i.psbt.now i.number s.spend i.input i.fields) c.self.view_is c.self.invariant.at in
+    let at = subst (λ (s : Seen). IsAt i.verification i.psbt.now i.number s.spend i.input i.fields) c.self.view_is c.self.invariant.at in
     c.bytes_or_none.ensures ∙ ap (λ (o : Option Bytes). unwrap_or o []) (c.final_script_sig.ensures ∙ ap (λ (h : Held). h.final_script_sig) at.fields)

@@ -9,7 +9,7 @@ use Rattle.ms_text.proofs.AnswerLemmas.{refused, along, answers_along}
 use Rattle.ms_text.proofs.PartLemmas.{part_at, part_with, and_or_part, pair_part, one_more, joined_count, joined_measure, joined_depth, joined_writable}
 use Rattle.ms_text.proofs.ExpressionLemmas.{name_begins, run_too_deep, run_begins}
 use Rattle.ms_text.proofs.NameLemmas.{letters_are_long}
-use Rattle.def_tree.specs.Range.{MOST_DEPTH}
+use Rattle.def_tree.specs.InRange.{MOST_DEPTH}
 use Rattle.ms_text.specs.Scaffolding.Room.{AreParts}
 use Rattle.ms_text.specs.Scaffolding.Place.{rest}
 use Rattle.ms_text.proofs.RunLemmas.{run_offsets_are, run_is_long}

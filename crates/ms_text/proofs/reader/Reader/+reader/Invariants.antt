@@ -1,8 +1,8 @@
 -- What is left of the text, in four steps a byte.
 use Rattle.std.proofs.Common.{◌≡◌, ◌∷◌, ◌+◌, ◌-◌, ◌*◌, ◌<◌, ◌≤◌, ℕ, List, length}
 use Rattle.def_text.specs.Scaffolding.Reader.{Frame, expression, thresh_comma, thresh_child}
-use Rattle.def_tree.specs.Size.{measure_of, depth_of}
-use Rattle.def_tree.specs.Range.{AreWritable, MOST_DEPTH}
+use Rattle.def_tree.specs.InRange.{measure_of, depth_of, MOST_DEPTH}
+use Rattle.def_tree.specs.Range.{AreWritable}
 use Rattle.ms_tree.specs.Shape.{shapes}
 use Rattle.ms_text.specs.Scaffolding.Place.{IsPlace, machine_from}
 use Rattle.ms_text.proofs.reader.Reader.+reader.Given as goal

@@ -20,6 +20,8 @@ returns-clause-promises g c = record {
   witnesses = c.msat_psbt.ensures.witnesses;
   lacking = c.msat_psbt.ensures.lacking;
   nothing_lost = c.msat_psbt.ensures.nothing_lost;
+  alike = c.msat_psbt.ensures.alike;
+  compared = c.msat_psbt.ensures.compared;
   transaction = c.msat_psbt.ensures.transaction;
   parts = c.msat_psbt.ensures.parts;
 }

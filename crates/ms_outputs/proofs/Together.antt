@@ -1,0 +1,73 @@
+-- What is given together: the keys, the text, the program and the network.
+use Rattle.std.proofs.Common.{◌≡◌, ℕ, List, [], ◌∷◌, ap, ◌∙◌, refl, sym, subst, Option, Some, None, Result, Ok, IfErr}
+use Rattle.std.specs.Option.{unwrap_or}
+use Rattle.std.specs.Result.{IsErrAnd}
+use Rattle.std.proofs.lemmas.Result.{err_from_is_err_and}
+use Rattle.def_script.specs.Bytes.{Bytes}
+use Rattle.def_machine.specs.Program.{program_of}
+use Rattle.def_tree.specs.Tree.{Key}
+use Rattle.def_text.specs.Refusal.{TextReads, TextRefusal}
+use Rattle.def_address.specs.declared.Network.{Network}
+use Rattle.def_descriptor.specs.Gives.{with_key, keys_at, expressions_of, text_of, network_by, asked}
+use Rattle.ms_descriptor.specs.declared.expression.Expression.{Expression}
+use Rattle.ms_descriptor.specs.declared.parts.Body.{Body}
+use Rattle.ms_descriptor.specs.declared.parts.Body.TheVariants as body
+use Rattle.ms_descriptor.specs.Bodies.{body_at}
+use Rattle.ms_outputs.specs.declared.given.GivenFault.{GivenFault}
+use Rattle.ms_outputs.specs.declared.given.GivenFault.TheVariants.{NoKey, Unread, Memory}
+use Rattle.ms_outputs.specs.Keys.{expressions_of_body, first_version, TellsNoKey}
+use Rattle.ms_outputs.specs.Given.{HasScript, TellsRefusal, HasOne, IsProgram, IsNotGiven}
+use Rattle.ms_outputs.proofs.Finding.{expressions_are}
+use Rattle.ms_outputs.proofs.Versions.{network_is}
+
+-- a refusal that is handed on
+pub handed_on : {A : Type 0} (result : Result A GivenFault) (why : GivenFault) (P : GivenFault → Type 0) → IsErrAnd result (λ y. y ≡ why) → P why → IfErr result P
+handed_on result why P is h = let p = err_from_is_err_and result is in rw (p.1, p.2) h
+
+-- ---- the program
+
+pub program_is : (whole text : Bytes) (own : Body) (keys : List Key) (script program : Bytes) → ((expression : Expression) → own ≡ body.Single expression → ⊥)
+    → HasScript text script → program ≡ program_of script → text ≡ text_of (body_at whole own) keys → IsProgram (body_at whole own) keys (Some script) program
+program_is whole text (body.Miniscript pieces) keys script program other s h e =
+    (s.tree, _, (s.offsets, subst (λ (z : Bytes). TextReads z s.tree s.offsets) e s.reads, refl), ap Some s.is, h ∙ ap program_of s.is)
+program_is whole text (body.Sorted at pieces) keys script program other s h e =
+    (s.tree, _, (s.offsets, subst (λ (z : Bytes). TextReads z s.tree s.offsets) e s.reads, refl), ap Some s.is, h ∙ ap program_of s.is)
+program_is whole text (body.Single expression) keys script program other s h e = absurd (other expression refl)
+
+-- ---- the keys
+
+one_of : (at : ℕ) (found : Option Key) (keys : List Key) → with_key at found (Ok []) ≡ Ok keys → (key : Key) × (keys ≡ key ∷ [])
+one_of at None keys h = absurd (cc)
+one_of at (Some key) keys h = (key, cc)
+
+pub one_is : (branch i : ℕ) (own : Body) (keys : List Key) → keys_at branch i (expressions_of_body own) ≡ Ok keys → HasOne own keys
+one_is branch i (body.Miniscript pieces) keys h = tt
+one_is branch i (body.Sorted at pieces) keys h = tt
+one_is branch i (body.Single expression) keys h = one_of expression.at _ keys h
+
+module _ (text : Bytes) (own : Body) (branch i : ℕ) where
+  pub keys_are : (keys : List Key) → keys_at branch i (expressions_of_body own) ≡ Ok keys → keys_at branch i (expressions_of (body_at text own)) ≡ Ok keys
+  keys_are keys h = ap (keys_at branch i) (expressions_are text own) ∙ h
+
+  pub not_by_keys : (why : GivenFault) → TellsNoKey (keys_at branch i (expressions_of_body own)) why → IsNotGiven (body_at text own) branch i why
+  not_by_keys (NoKey at) h = ap (keys_at branch i) (expressions_are text own) ∙ h
+  not_by_keys (Unread why) h = absurd h
+  not_by_keys Memory h = tt
+
+  pub not_by_text : (keys : List Key) (written : Bytes) (why : GivenFault) → keys_at branch i (expressions_of_body own) ≡ Ok keys
+      → written ≡ text_of (body_at text own) keys → TellsRefusal written why → IsNotGiven (body_at text own) branch i why
+  not_by_text keys written (NoKey at) k e h = absurd h
+  not_by_text keys written (Unread why) k e h = (keys, keys_are keys k, subst (λ (z : Bytes). TextRefusal z why) e h)
+  not_by_text keys written Memory k e h = tt
+
+-- ---- the text, and the network
+
+pub text_is : (text other : Bytes) (own : Body) (keys same : List Key) (written : Bytes) → other ≡ text → same ≡ keys
+    → written ≡ text_of (body_at other own) same → written ≡ text_of (body_at text own) keys
+text_is text other own keys same written e k h =
+    h ∙ (ap (λ (z : Bytes). text_of (body_at z own) same) e ∙ ap (text_of (body_at text own)) k)
+
+pub asked_is : (network : Option Network) (text : Bytes) (own : Body) (by result : Network) → result ≡ unwrap_or network by
+    → by ≡ network_by (first_version (expressions_of_body own)) → result ≡ asked network (body_at text own)
+asked_is None text own by result e h = e ∙ (h ∙ sym (network_is text own))
+asked_is (Some network) text own by result e h = e
