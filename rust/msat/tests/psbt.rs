@@ -115,7 +115,7 @@ fn questions() -> Vec<Question> {
     let Some(top) = env::var_os("MSAT_PSBTS") else { return Vec::new() };
     let folders = fs::read_dir(top).expect("the folder of the questions").map(|it| it.expect("a folder").path());
     let question = |place: PathBuf| Question {
-        words: fs::read_to_string(place.join("words")).expect("words").trim().to_owned(),
+        words: fs::read_to_string(place.join("words")).expect("words").trim().replace(char::is_whitespace, " "),
         source: fs::read(place.join("source")).expect("a PSBT"),
         status: fs::read_to_string(place.join("status")).map_or(0, |it| it.trim().parse().expect("a status")),
         report: fs::read(place.join("report")).expect("a report"),
@@ -136,9 +136,9 @@ fn every_report_is_read_whole() {
         let report = String::from_utf8_lossy(&it.report).into_owned();
         let said = match it.words.as_str() {
             "inspect" => msat::psbt::inspect(&it.source).map(|told| spelled_settled(&told, &it)),
-            "inspect\n--unverified" => msat::psbt::inspect_unverified(&it.source).map(|told| spelled_settled(&told, &it)),
+            "inspect --unverified" => msat::psbt::inspect_unverified(&it.source).map(|told| spelled_settled(&told, &it)),
             "hashes" => msat::psbt::hashes(&it.source).map(|told| spelled_hashes(&told).expect("lines")),
-            "hashes\n--unverified" => msat::psbt::hashes_unverified(&it.source).map(|told| spelled_hashes(&told).expect("lines")),
+            "hashes --unverified" => msat::psbt::hashes_unverified(&it.source).map(|told| spelled_hashes(&told).expect("lines")),
             _ => continue,
         };
         match said {
