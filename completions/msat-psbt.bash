@@ -3,9 +3,9 @@
 _msat_psbt() {
     local word=${COMP_WORDS[COMP_CWORD]}
     COMPREPLY=()
-    case $COMP_CWORD ${COMP_WORDS[1]} in
-    1\ *) COMPREPLY=($(compgen -W "finalize inspect extract hashes verify combine lines" -- "$word")) ;;
-    2\ finalize | 2\ inspect | 2\ hashes) COMPREPLY=($(compgen -W "--unverified" -- "$word")) ;;
+    case "$COMP_CWORD ${COMP_WORDS[1]}" in
+    "1 "*) COMPREPLY=($(compgen -W "finalize inspect extract hashes verify combine lines" -- "$word")) ;;
+    "2 finalize" | "2 inspect" | "2 hashes") COMPREPLY=($(compgen -W "--unverified" -- "$word")) ;;
     esac
 }
 complete -o default -F _msat_psbt msat-psbt
