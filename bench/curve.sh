@@ -2,9 +2,15 @@
 # Instructions a judgement of a good signature, key and DER included, on average over random ones: of the proved call, of libsecp256k1 (Debian's
 # libsecp256k1-dev) and of a plain program in Rust with the same arithmetic. Each is the difference between two judgements and one of each row,
 # over the rows. Before, all three say the same of each row.
-# With the words `trial N` it measures nothing: N random and damaged signatures get the same words by the proved call and by libsecp256k1.
+# With the words `trial N` it measures nothing: N random and damaged signatures get the same words by the proved library and by libsecp256k1, and
+# their keys the same points.
 . "$(dirname "$0")/lib.sh"
 wants valgrind rustc rt cc python3
+cases=$top/bench/curve_cases
+if [ "${1:-}" = trial ]; then
+    "$cases" trial "${2:-1000000}" || stop "they differ"
+    exit 0
+fi
 small_program curve_bench "def_curve ms_judge hex" <<'RATTLE'
 //! A line `KEY HASH SIG` of standard input, in hex digits or `-`, gives the word of its judgement. A number says how often each is judged.
 #![tactic(auto)]
@@ -51,11 +57,6 @@ fn main(rt: HostRuntime) -> io::Result<()> {
     out.flush()
 }
 RATTLE
-cases=$top/bench/curve_cases
-if [ "${1:-}" = trial ]; then
-    "$cases" trial "${2:-1000000}" "$program" || stop "they differ"
-    exit 0
-fi
 plain curve_baseline
 other=$work/curve_libsecp256k1
 cc -O2 -o "$other" "$top/bench/curve_libsecp256k1.c" -lsecp256k1 || stop "there is no libsecp256k1-dev"

@@ -1,30 +1,30 @@
 #!/bin/sh
 # Fuzzes the proved library with libFuzzer, which follows its coverage, and the proved program beside it: msat_answer and msat by words, texts,
-# asset files, run files, plan files, Scripts and keys; or msat_psbt_answer and msat-psbt by PSBTs. It begins with the inputs in
-# bench/fuzz/seeds/, the cases of examples/, generated texts, and the words of bench/fuzz/msat.dict, or psbt.dict. bench/fuzz/harness.c and
-# bench/fuzz/psbt.c say what stops it. For this the archive is compiled once more, from what was proved, with a counter at each branch: by the
-# kit's compiler with one word more (.ci/archive).
+# asset files, run files, plan files, Scripts and keys; or msat_psbt_answer and msat-psbt by PSBTs; or msat_signature and msat_point by keys,
+# hashes and signatures, with libsecp256k1 in the program's place. It begins with the inputs in bench/fuzz/seeds/, the cases of examples/,
+# generated texts, and the words of bench/fuzz/msat.dict, or psbt.dict. bench/fuzz/harness.c, psbt.c and curve.c say what stops it. For this the
+# archive is compiled once more, from what was proved, with a counter at each branch: by the kit's compiler with one word more (.ci/archive).
 #
 # The first process traces comparisons, so that their operands are tried, and prefers inputs with rare branches; it hands what it finds to the
 # others, which do without either and make three times as many executions. libFuzzer's profile of compared values isn't kept: with it a tenth of the
 # executions is made in the same time, and fewer branches are covered.
 #
 # The executions are made in slices, of which each one is written down at its end: in bench/results/fuzz_runs.tsv with the sum of the
-# archive that was fuzzed, and by commands and statuses in bench/results/fuzz.tsv, or fuzz_psbt.tsv. So a run that is broken off loses a slice
+# archive that was fuzzed, and by commands and statuses in bench/results/fuzz.tsv, fuzz_psbt.tsv or fuzz_curve.tsv. So a run that is broken off loses a slice
 # at most, and the next one goes on from that count, with other random numbers. After 1,000,000 executions and more the least set of inputs that
 # covers the same branches is put into bench/fuzz/seeds/.
 #
 # Ends with 1 where an input crashed, took over a second (or FUZZ_TIMEOUT seconds, on a busy machine), or broke what the harness asks; that
 # input is kept in bench/fuzz/found/. Wants clang with libFuzzer (Debian's clang and libclang-rt-14-dev), objcopy, Python and rt, and the
-# library and the programs to be built (.ci/run).
-# Usage: bench/fuzz.sh [msat-psbt] [EXECUTIONS [PROCESSES]]
+# library and the programs to be built (.ci/run), and for signatures Debian's libsecp256k1-1.
+# Usage: bench/fuzz.sh [msat-psbt | signatures] [EXECUTIONS [PROCESSES]]
 . "$(dirname "$0")/lib.sh"
 wants clang objcopy python3 rt tar gzip flock
-own=msat harness=harness words=msat longest=6000
-if [ "${1:-}" = msat-psbt ]; then
-    shift
-    name=fuzz_psbt own=msat_psbt harness=psbt words=psbt longest=20000
-fi
+own=msat harness=harness words=-dict=$top/bench/fuzz/msat.dict longest=6000 linked=-Wl,--wrap=read,--wrap=write
+case ${1:-} in
+msat-psbt) shift && name=fuzz_psbt own=msat_psbt harness=psbt words=-dict=$top/bench/fuzz/psbt.dict longest=20000 ;;
+signatures) shift && name=fuzz_curve own=signatures harness=curve words= longest=400 linked=-l:libsecp256k1.so.1 ;;
+esac
 executions=${1:-10000000} processes=${2:-$(nproc)}
 slice=${FUZZ_SLICE:-1000000} most=${FUZZ_TIMEOUT:-1}
 kit=$(dirname "$(rt doc)")
@@ -71,8 +71,8 @@ for kind in traced counted; do
     *) counted counted inline-8bit-counters,pc-table ;;
     esac
     # shellcheck disable=SC2086
-    clang -O2 -Wall -Wextra -fsanitize=fuzzer -Wl,--wrap=read,--wrap=write -o "$work/$kind" "$top/bench/fuzz/$harness.c" $program "$counted" \
-        "$kit/c/libos_c.a" "$kit/c/liblibc_c.a" || stop "the fuzzer isn't built"
+    clang -O2 -Wall -Wextra -fsanitize=fuzzer -o "$work/$kind" "$top/bench/fuzz/$harness.c" $program "$counted" \
+        "$kit/c/libos_c.a" "$kit/c/liblibc_c.a" $linked || stop "the fuzzer isn't built"
 done
 
 # What it begins with: what earlier runs kept, the cases of examples/, and texts by the types of BIP 379 with each command; or PSBTs with each command.
@@ -89,9 +89,19 @@ if sys.argv[3] == "msat_psbt":
         if (source.parent / "words").read_text().split() == ["combine"]:
             made |= {b"c" + psbt, *(letter + line for letter in (b"f", b"i", b"e", b"h", b"v") for line in psbt.split())}
             continue
-        made |= {letter + psbt for letter in (b"f", b"i", b"e", b"h", b"v")}
+        made |= {letter + psbt for letter in (b"f", b"i", b"e", b"h", b"v", b"F", b"I", b"H")}
         made.add(b"c" + 2 * ((base64.b64encode(psbt) if psbt.startswith(b"psbt\xff") else psbt.replace(b"\n", b"")) + b"\n"))
     for number, input in enumerate(sorted(made)):
+        (seeds / f"{number:05}").write_bytes(input)
+    sys.exit(print(f"{len(made)} seeds"))
+if sys.argv[3] == "signatures":
+    spelled = lambda word: b"" if word == "-" else bytes.fromhex(word)
+    made = []
+    for row in (top / "examples/signatures/signature.rows").read_text().splitlines():
+        key, digest, sig = map(spelled, row.split()[1:4])
+        made.append(bytes([len(key), len(digest)]) + key + digest + sig)
+    made += [bytes([len(key), 0]) + key for key in (spelled(row.split()[0]) for row in (top / "examples/signatures/point.rows").read_text().splitlines())]
+    for number, input in enumerate(made):
         (seeds / f"{number:05}").write_bytes(input)
     sys.exit(print(f"{len(made)} seeds"))
 sys.path.insert(0, str(top / "bench"))
@@ -109,7 +119,7 @@ for _ in range(200):
     text = texts.text()
     pairs = ",".join(f'{{"key":"{key}","sig":"3044"}}' for key in dict.fromkeys(texts.keys))
     source = f'{{"sequence":20,"signatures":[{pairs}],"preimages":["{"00" * 32}"]}}'
-    for words in (["script"], ["asm"], ["check"], ["policy"], ["satisfy"], ["satisfy", "--malleable"], ["check", "--consensus"], ["satisfy", "--consensus"]):
+    for words in (["script"], ["asm"], ["tree"], ["check"], ["policy"], ["satisfy"], ["satisfy", "--malleable"], ["check", "--consensus"], ["satisfy", "--consensus"]):
         made.append((words + [text], source))
     made.append((["plan", text], source.replace("signatures", "keys").replace('"sig":"3044"', '"length":72')))
 made += [(["gen", str(number)], "") for number in (1, 2, 7, 30)]
@@ -181,7 +191,7 @@ for process in $(seq "$processes"); do
             seed=$((1 + past + process + 1000 * number))
             rm -f "counts$process"
             FUZZ_COUNTS=$work/counts$process ./$fuzzer -entropic=$entropic -runs="$runs" -seed=$seed -timeout="$most" -rss_limit_mb=1024 -max_len=$longest -reload=1 \
-                -use_value_profile=0 -dict="$top/bench/fuzz/$words.dict" -artifact_prefix="$work/found$process/" -print_final_stats=1 \
+                -use_value_profile=0 ${words:+"$words"} -artifact_prefix="$work/found$process/" -print_final_stats=1 \
                 corpus seeds kept >"log$process" 2>&1
             status=$?
             python3 "$work/note" "$results" "$name" $own "$sum" "log$process" "counts$process" $seed $(($(date +%s) - from))

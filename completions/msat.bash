@@ -4,10 +4,10 @@ _msat() {
     local word=${COMP_WORDS[COMP_CWORD]}
     COMPREPLY=()
     case $COMP_CWORD in
-    1) COMPREPLY=($(compgen -W "script asm check satisfy run gen policy plan audit trace decode lines" -- "$word")) ;;
+    1) COMPREPLY=($(compgen -W "script asm tree check satisfy run gen policy plan audit trace decode lines" -- "$word")) ;;
     2)
         case ${COMP_WORDS[1]} in
-        script | asm | check) COMPREPLY=($(compgen -W "--consensus" -- "$word")) ;;
+        script | asm | tree | check) COMPREPLY=($(compgen -W "--consensus" -- "$word")) ;;
         satisfy) COMPREPLY=($(compgen -W "--malleable --consensus" -- "$word")) ;;
         gen) COMPREPLY=($(compgen -W "$(seq 30)" -- "$word")) ;;
         esac

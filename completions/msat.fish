@@ -3,6 +3,7 @@
 complete -c msat -f
 complete -c msat -n __fish_use_subcommand -a script -d 'the Script of a valid text'
 complete -c msat -n __fish_use_subcommand -a asm -d 'the instructions of the Script of a valid text, with the node that wrote each'
+complete -c msat -n __fish_use_subcommand -a tree -d 'the nodes of a text, each with its type, and which letter fits'
 complete -c msat -n __fish_use_subcommand -a check -d 'what is known of a sane text'
 complete -c msat -n __fish_use_subcommand -a satisfy -d 'a satisfaction of a text, with an asset file on standard input'
 complete -c msat -n __fish_use_subcommand -a run -d 'the run of a script on a stack, with a run file on standard input'
@@ -14,5 +15,5 @@ complete -c msat -n __fish_use_subcommand -a trace -d 'the run of a script step 
 complete -c msat -n __fish_use_subcommand -a decode -d 'the text that a Script is read back as'
 complete -c msat -n __fish_use_subcommand -a lines -d 'the answer to a question on each line of standard input'
 complete -c msat -n '__fish_seen_subcommand_from satisfy' -l malleable -d 'the lightest satisfaction, which others may be able to change'
-complete -c msat -n '__fish_seen_subcommand_from script asm check satisfy' -l consensus -d 'by the limits of consensus, not by those of policy'
+complete -c msat -n '__fish_seen_subcommand_from script asm tree check satisfy' -l consensus -d 'by the limits of consensus, not by those of policy'
 complete -c msat -n '__fish_seen_subcommand_from gen' -a '(seq 30)'

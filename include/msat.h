@@ -73,8 +73,8 @@ enum {
 };
 
 /* Answers the words of a command line, as `msat` does where its standard input holds `source`: `script TEXT`, `asm TEXT`,
- * `check TEXT`, `satisfy TEXT`, `run`, `policy TEXT`, `plan TEXT`, `audit TEXT`, `trace`, `trace TEXT`, `decode HEX KEY..` and the
- * others that docs/FORMATS.md lists.
+ * `tree TEXT`, `check TEXT`, `satisfy TEXT`, `run`, `policy TEXT`, `plan TEXT`, `audit TEXT`, `trace`, `trace TEXT`, `decode HEX KEY..`
+ * and the others that docs/FORMATS.md lists.
  *
  * words    `count` words, each of UTF-8 without a NUL, with a NUL after each, and nothing behind the last NUL: for
  *          `script 1` the nine bytes "script\0" "1\0", a count of 2 and a length of 9.

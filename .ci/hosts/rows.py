@@ -70,7 +70,7 @@ def try_class(folder: Path) -> None:
             audit = msat.audit(words[-1], source)
             said = f" peak {audit.peak}\n" in report and report.count("node ") == len(audit.steps)
             said = said and ("canonical yes" in report) == audit.canonical and report.count(" extra\n") == sum(step.extra for step in audit.steps)
-        elif words[0] in ("trace", "asm"):
+        elif words[0] in ("trace", "asm", "tree"):
             said = msat.report(words, source) == report
         elif words[0] == "decode":
             said = msat.decode(bytes.fromhex(words[1]), [bytes.fromhex(key) for key in words[2:]]) in report

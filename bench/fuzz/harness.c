@@ -155,7 +155,7 @@ static int of_satisfy(int count, char **words_of, const char *input, size_t leng
     return 1;
 }
 
-static const char *const commands[] = {"script", "check", "satisfy", "run", "gen", "policy", "plan", "decode", "audit", "trace", "asm", "others"};
+static const char *const commands[] = {"script", "check", "satisfy", "run", "gen", "policy", "plan", "decode", "audit", "trace", "asm", "tree", "others"};
 enum { COMMANDS = sizeof commands / sizeof *commands };
 static unsigned long answers[COMMANDS][STATUSES], tried[COMMANDS][STATUSES];
 

@@ -125,6 +125,9 @@ def report(words: Sequence[str], source: File = b"") -> str:
     >>> try: report(["trace"], {"script": "5100"})
     ... except ScriptRefused as refused: refused.name, refused.place, refused.report.splitlines()
     ('CleanStack', 2, ['step 0 push 01', 'step 1 push -', 'refused script CleanStack at 2'])
+    >>> try: report(["tree", "and_v(older(1),1)"])
+    ... except TextRefused as refused: refused.name, refused.place, refused.report.splitlines()[-1]
+    ('Rule', 0, 'fits v at 6')
     """
     code, text = answer(words, source)
     if code != 0:
@@ -360,6 +363,8 @@ def _refuse(code: int, text: str) -> NoReturn:
     if code in plain:
         raise plain[code](text)
     if code == 2:
+        # `tree` tells the nodes before the refusal, and what fits behind it.
+        words = next(line for line in text.splitlines() if line.startswith("refused text ")).split()
         raise _text_refusal(text, words[2], words[3:])
     if code == 3:
         raise _file_refusal(text, words[2], words[3:])

@@ -1,7 +1,7 @@
 -- The program's answer: for each list of words and each content of the source a status and a report. The
 -- words come first, then the text, the reasons against its tree, the file, and the satisfaction, the run, the plan, the
 -- audit or the trace.
-use Rattle.std.specs.Prelude.{◌≡◌, ◌⊎◌, ℕ, true, ⊤, List, [], map, Option, unwrap_or, Ok}
+use Rattle.std.specs.Prelude.{◌≡◌, ◌⊎◌, ℕ, true, ⊤, List, [], map, Option, None, Some, unwrap_or, Ok}
 use Rattle.std.specs.Result.{result_unwrap_or}
 use Rattle.hex.specs.Hex.{decode_of}
 use Rattle.def_script.specs.Bytes.{Bytes}
@@ -21,13 +21,14 @@ use Rattle.def_answer.specs.Satisfy.{chosen_by, reason_by}
 use Rattle.def_decode.specs.Decoded.{IsReading, IsDecoded}
 use Rattle.def_answer.specs.declared.status.Status.{Status}
 use Rattle.def_answer.specs.declared.status.Status.TheVariants as status
-use Rattle.def_answer.specs.Words.{Command, script, asm, check, satisfy, gen, policy, plan, audit, trace, trace_text, decode, IsForm, HasNoForm}
+use Rattle.def_answer.specs.Words.{Command, script, asm, outline, check, satisfy, gen, policy, plan, audit, trace, trace_text, decode, IsForm, HasNoForm}
 use Rattle.def_answer.specs.Words as words
 use Rattle.def_answer.specs.Generated.{generated_tree, generated_assets}
 use Rattle.def_answer.specs.Reading.{Reading, HasReading}
 use Rattle.def_answer.specs.Reading as reading
 use Rattle.def_answer.specs.Script.{script_report}
 use Rattle.def_answer.specs.Asm.{asm_report}
+use Rattle.def_answer.specs.Outline.{outline_report, unfit_report}
 use Rattle.def_answer.specs.Check.{check_report}
 use Rattle.def_answer.specs.Gen.{gen_report}
 use Rattle.def_answer.specs.Policy.{policy_report}
@@ -45,6 +46,18 @@ script_reply tree = reply status.Done (script_report tree)
 
 abbrev pub asm_reply : (offsets : List ℕ) → Tree → Reply
 asm_reply offsets tree = reply status.Done (asm_report offsets tree)
+
+-- of a tree that isn't sane the nodes too, and then the first reason
+abbrev pub outlined_reply : (offsets : List ℕ) → Tree → Option Unfit → Reply
+outlined_reply offsets tree None = reply status.Done (outline_report offsets tree)
+outlined_reply offsets tree (Some unfit) = reply status.TextRefused (unfit_report offsets tree unfit)
+
+abbrev pub tree_reply : Rules → (offsets : List ℕ) → Tree → Reply
+tree_reply rules offsets tree = outlined_reply offsets tree (first_unfit_under rules tree)
+
+-- no reason is asked for
+abbrev pub no_reason : Tree → Option Unfit
+no_reason tree = None
 
 abbrev pub check_reply : Rules → Tree → Reply
 check_reply rules tree = reply status.Done (check_report rules tree)
@@ -111,6 +124,7 @@ RepliesToTrace text source r = RepliesWithPlaces text first_unfit_valid (λ offs
 abbrev pub Replies : Command → (source : Bytes) → Reply → Type 0
 Replies (script rules text) source r = RepliesToText text (first_unfit_valid_under rules) script_reply r
 Replies (asm rules text) source r = RepliesWithPlaces text (first_unfit_valid_under rules) asm_reply r
+Replies (outline rules text) source r = RepliesWithPlaces text no_reason (tree_reply rules) r
 Replies (check rules text) source r = RepliesToText text (first_unfit_under rules) (check_reply rules) r
 Replies (satisfy choice rules text) source r = RepliesToText text (reason_by choice rules) (satisfy_reply rules (chosen_by choice) source) r
 Replies words.run source r = r ≡ run_reply source

@@ -6,6 +6,7 @@ pub mod Satisfy
 pub mod Words
 pub mod Script
 pub mod Asm
+pub mod Outline
 pub mod Check
 pub mod Run
 pub mod Generated

@@ -8,7 +8,7 @@ use Rattle.def_sane.specs.Unfit.{first_unfit, first_unfit_valid}
 use Rattle.def_answer.specs.declared.status.Status.{Status}
 use Rattle.def_answer.specs.declared.status.Status.TheVariants as status
 use Rattle.def_answer.specs.Satisfy.{reason_by}
-use Rattle.def_answer.specs.Words.{Command, script, asm, check, satisfy, run, gen, policy, plan, audit, trace, trace_text, decode, IsForm}
+use Rattle.def_answer.specs.Words.{Command, script, asm, outline, check, satisfy, run, gen, policy, plan, audit, trace, trace_text, decode, IsForm}
 
 -- the text is read as a tree, and there is no reason against it
 abbrev pub Passes : (first_reason : Tree → Option Unfit) → (text : Bytes) → Type 0
@@ -19,6 +19,7 @@ Passes first_reason text =
 abbrev pub NeedsSource : Command → Type 0
 NeedsSource (script rules text) = ⊥
 NeedsSource (asm rules text) = ⊥
+NeedsSource (outline rules text) = ⊥
 NeedsSource (check rules text) = ⊥
 NeedsSource (satisfy choice rules text) = Passes (reason_by choice rules) text
 NeedsSource run = ⊤

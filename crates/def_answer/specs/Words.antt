@@ -13,6 +13,8 @@ pub data Command : Type 0 where
   script : (rules : Rules) → (text : Bytes) → Command
   -- the instructions of the Script of a text that is valid under these rules, with the node that wrote each
   asm : (rules : Rules) → (text : Bytes) → Command
+  -- the nodes of a text's tree, each with its type, whether or not it is sane under these rules
+  outline : (rules : Rules) → (text : Bytes) → Command
   -- what is known of a text that is sane under these rules
   check : (rules : Rules) → (text : Bytes) → Command
   -- the satisfaction that is chosen so, of a text that is sane or valid under these rules, with an asset file
@@ -38,6 +40,7 @@ pub data Command : Type 0 where
 abbrev pub words_of : Command → List Bytes
 words_of (script rules text) = codes "script" ∷ (rules_words rules ++ text ∷ [])
 words_of (asm rules text) = codes "asm" ∷ (rules_words rules ++ text ∷ [])
+words_of (outline rules text) = codes "tree" ∷ (rules_words rules ++ text ∷ [])
 words_of (check rules text) = codes "check" ∷ (rules_words rules ++ text ∷ [])
 words_of (satisfy choice rules text) = satisfy_words choice rules text
 words_of run = codes "run" ∷ []
@@ -61,6 +64,7 @@ IsHex digits = (length digits % 2 ≡ 0) × AllPass is_hex_digit digits
 abbrev pub IsCommand : Command → Type 0
 IsCommand (script rules text) = ⊤
 IsCommand (asm rules text) = ⊤
+IsCommand (outline rules text) = ⊤
 IsCommand (check rules text) = ⊤
 IsCommand (satisfy choice rules text) = ⊤
 IsCommand run = ⊤

@@ -14,7 +14,10 @@ use Rattle.def_lines.specs.Lines.{cut, cut_before, last_line, lines, LF, Cut}
 use Rattle.def_lines.specs.Question.{Id, whole, text, Line, asks, refused, is_plain, id_in, told_id, told_words, told_source, with_id, line_read, line_of, id_told, MOST_LINE, MOST_ID, MOST_ID_LENGTH}
 use Rattle.def_lines.specs.Answer.{answer_line, fault_line, REFUSED, NO_MEMORY}
 use Rattle.def_lines.specs.Answers.{AnswersOf, Answers, LacksMemory, AnswersLine, AnswersEach}
-use Rattle.def_lines.specs.Laws.{is_reported, ReportsPlainly, AreToldBy, One}
+use Rattle.def_lines.specs.Laws.{is_reported, ReportsTextsPlainly, AreToldBy, One}
+use Rattle.def_lines.proofs.Lists.{to_all}
+use Rattle.def_lines.proofs.Texts.{IsLow}
+use Rattle.def_lines.proofs.Strings.{AsksText, line_asks}
 use Rattle.def_lines.proofs.Cuts.{before_is, lines_alone}
 use Rattle.def_lines.proofs.Told.{none_some, AreShown, is_shown, IsReread, without_feed, answer_is, shown_line, told_back}
 
@@ -92,14 +95,14 @@ fault_plain (fault.Shape part.Id) = refl
 fault_plain (fault.Shape part.Words) = refl
 fault_plain (fault.Shape part.Source) = refl
 
-said : (IsAnswer : AnswersOf) → ReportsPlainly IsAnswer → (line : Line) (answer : Bytes) → IsReread (id_told line)
+said : (IsAnswer : AnswersOf) → ReportsTextsPlainly IsAnswer → (line : Line) (answer : Bytes) → IsReread (id_told line) → AsksText line
     → Answers IsAnswer line answer ⊎ LacksMemory line answer → IsSaid answer
-said IsAnswer plain (asks id words source) answer again (inl (status, report, answers, e)) =
-    let fits = plain words source status report answers in
+said IsAnswer plain (asks id words source) answer again low (inl (status, report, answers, e)) =
+    let fits = plain words source status report (to_all IsLow source low) answers in
     record { id = id; status = status; report = report; is = e; again = again; small = fits.0; plain = fits.1 }
-said IsAnswer plain (refused id fault) answer again (inl e) =
+said IsAnswer plain (refused id fault) answer again low (inl e) =
     record { id = id; status = REFUSED; report = fault_line fault; is = e; again = again; small = omega arith; plain = fault_plain fault }
-said IsAnswer plain line answer again (inr (id, from, e)) =
+said IsAnswer plain line answer again low (inr (id, from, e)) =
     let known : IsReread id = elim from [
       | inl none ↦ subst IsReread (sym none) tt
       | inr same ↦ subst IsReread (sym same) again
@@ -122,12 +125,12 @@ one_line : (line rest : Bytes) → AreShown line → lines (line ++ LF ∷ rest)
 one_line line rest e =
     lines_alone line rest ∙ ap (λ (c : Cut). (c.ended ++ last_line c.rest) ++ lines rest) (cut_line line e)
 
-told_each : (IsAnswer : AnswersOf) → ReportsPlainly IsAnswer → (ls : List Bytes) (answers : Bytes) → AnswersEach IsAnswer ls answers
+told_each : (IsAnswer : AnswersOf) → ReportsTextsPlainly IsAnswer → (ls : List Bytes) (answers : Bytes) → AnswersEach IsAnswer ls answers
     → AreToldBy IsAnswer ls (lines answers)
 unfolding AnswersEach AreToldBy cut
 told_each IsAnswer plain [] answers none = subst (λ a. AreToldBy IsAnswer [] (lines a)) (sym none) tt
 told_each IsAnswer plain (line ∷ ls) answers (answer, rests, one, more, e) =
-    let it = said IsAnswer plain (line_of line) answer (line_again line) one in
+    let it = said IsAnswer plain (line_of line) answer (line_again line) (line_asks line) one in
     let body = without_feed it.id it.status it.report in
     let whole_is = it.is ∙ answer_is it.id it.status it.report in
     let parts = ap lines (e ∙ ap (λ a. a ++ rests) whole_is ∙ append_assoc body (LF ∷ []) rests)
@@ -143,5 +146,5 @@ told_each IsAnswer plain (line ∷ ls) answers (answer, rests, one, more, e) =
       told_each IsAnswer plain ls rests more,
     )
 
-pub one_each : (IsAnswer : AnswersOf) → One IsAnswer
+pub one_each : (IsAnswer : AnswersOf) → ReportsTextsPlainly IsAnswer → One IsAnswer
 one_each IsAnswer plain source answers all = told_each IsAnswer plain (lines source) answers all

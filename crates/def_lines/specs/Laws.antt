@@ -1,5 +1,5 @@
 -- What follows of lines and their answers.
-use Rattle.std.specs.Prelude.{◌≡◌, ◌↔◌, ◌<◌, ◌^◌, ◌||◌, ◌==◌, ℕ, Bool, true, List, [], ◌∷◌, ◌++◌, codes, Option, Some, option_and_then, ⊤}
+use Rattle.std.specs.Prelude.{◌≡◌, ◌↔◌, ◌<◌, ◌^◌, ◌||◌, ◌==◌, ℕ, Bool, true, List, [], ◌∷◌, ◌++◌, codes, Option, Some, option_and_then, ⊤, All}
 use Rattle.std.specs.List.{list_all}
 use Rattle.serde_json.specs.Data.{Data}
 use Rattle.serde_json.specs.Find.{get, as_number, as_str, as_u64}
@@ -34,11 +34,24 @@ Alone IsAnswer =
 abbrev pub is_reported : ℕ → Bool
 is_reported c = is_plain c || (c == LF)
 
--- all reports have such characters alone, and all statuses 64 bits
+-- a report has such characters alone, and its status 64 bits
+abbrev pub IsReported : (status : ℕ) → (report : Bytes) → Type 0
+IsReported status report = (status < 2 ^ 64) × (list_all is_reported report ≡ true)
+
+-- all reports are so, whatever the words are and the source holds
 abbrev pub ReportsPlainly : AnswersOf → Type 0
 ReportsPlainly IsAnswer =
-    (words : List Bytes) (source : Bytes) (status : ℕ) (report : Bytes) → IsAnswer words source status report →
-    (status < 2 ^ 64) × (list_all is_reported report ≡ true)
+    (words : List Bytes) (source : Bytes) (status : ℕ) (report : Bytes) → IsAnswer words source status report → IsReported status report
+
+-- a text in UTF-8 has no byte from f5 on (RFC 3629, section 1)
+abbrev pub ABOVE_UTF8 : ℕ
+ABOVE_UTF8 = 0xf5
+
+-- all reports are so, to a source that has no such byte
+abbrev pub ReportsTextsPlainly : AnswersOf → Type 0
+ReportsTextsPlainly IsAnswer =
+    (words : List Bytes) (source : Bytes) (status : ℕ) (report : Bytes) → All (λ byte. byte < ABOVE_UTF8) source →
+    IsAnswer words source status report → IsReported status report
 
 -- read as JSON a line is an object with this id, this status and this report
 pub record TellsBack (line : Bytes) (id : Option Id) (status : ℕ) (report : Bytes) : Type 0 where
@@ -64,7 +77,6 @@ AreToldBy IsAnswer [] (answer ∷ answers) = ⊥
 AreToldBy IsAnswer (line ∷ lines) [] = ⊥
 AreToldBy IsAnswer (line ∷ lines) (answer ∷ answers) = IsToldBy IsAnswer line answer × AreToldBy IsAnswer lines answers
 
--- so there are as many lines of answers as lines, and each is a line of JSON that has its status, its report and its id
+-- there are as many lines of answers as lines, and each is a line of JSON that has its status, its report and its id
 abbrev pub One : AnswersOf → Type 0
-One IsAnswer =
-    ReportsPlainly IsAnswer → (source answers : Bytes) → AnswersLines IsAnswer source answers → AreToldBy IsAnswer (lines source) (lines answers)
+One IsAnswer = (source answers : Bytes) → AnswersLines IsAnswer source answers → AreToldBy IsAnswer (lines source) (lines answers)

@@ -19,13 +19,13 @@ use Rattle.def_audit.specs.declared.Step.{Step}
 use Rattle.def_sane.specs.Unfit.{first_unfit, first_unfit_valid, first_unfit_under, first_unfit_valid_under}
 use Rattle.def_answer.specs.Satisfy.{chosen_by, reason_by}
 use Rattle.def_answer.specs.declared.status.Status.{Status}
-use Rattle.def_answer.specs.Words.{Command, script, asm, check, satisfy, run, gen, policy, plan, audit, trace, trace_text, decode, IsCommand}
+use Rattle.def_answer.specs.Words.{Command, script, asm, outline, check, satisfy, run, gen, policy, plan, audit, trace, trace_text, decode, IsCommand}
 use Rattle.def_answer.specs.Reading.{Reading, read, refused, HasReading}
 use Rattle.def_answer.specs.Reply.{Reply, reply, usage_reply, text_reply, satisfy_reply, run_reply, plan_reply, audit_reply, trace_reply, text_trace_reply}
 use Rattle.ms_answer_laws.proofs.Decided.{decided, decided_is, decided_not}
 use Rattle.ms_answer_laws.proofs.Forms.{command_of, is_form, none_has_form}
 use Rattle.ms_answer_laws.proofs.SpelledKeys.{are_keys}
-use Rattle.def_answer.specs.Answer.{script_reply, asm_reply, check_reply, policy_reply, bytes_of, decode_reply, no_reading_reply, gen_reply, RepliesToScript, HasSteps, offsets_of, Replies, RepliesToWords, Answer}
+use Rattle.def_answer.specs.Answer.{script_reply, asm_reply, tree_reply, no_reason, check_reply, policy_reply, bytes_of, decode_reply, no_reading_reply, gen_reply, RepliesToScript, HasSteps, offsets_of, Replies, RepliesToWords, Answer}
 use Rattle.ms_answer_laws.specs.Laws.{walked}
 use Rattle.ms_answer_laws.proofs.AuditSteps.{walked_are_steps}
 
@@ -56,6 +56,7 @@ has_reading text utf8 =
 abbrev pub OnText : (Bytes → Type 0) → Command → Type 0
 OnText P (script rules text) = P text
 OnText P (asm rules text) = P text
+OnText P (outline rules text) = P text
 OnText P (check rules text) = P text
 OnText P (satisfy choice rules text) = P text
 OnText P (policy text) = P text
@@ -88,6 +89,7 @@ has_steps text source (refused fault) has = tt
 abbrev pub reply_to : (source : Bytes) → Command → Reply
 reply_to source (script rules text) = text_reply (first_unfit_valid_under rules) script_reply (reading_of text)
 reply_to source (asm rules text) = text_reply (first_unfit_valid_under rules) (asm_reply (offsets_of (reading_of text))) (reading_of text)
+reply_to source (outline rules text) = text_reply no_reason (tree_reply rules (offsets_of (reading_of text))) (reading_of text)
 reply_to source (check rules text) = text_reply (first_unfit_under rules) (check_reply rules) (reading_of text)
 reply_to source (satisfy choice rules text) = text_reply (reason_by choice rules) (satisfy_reply rules (chosen_by choice) source) (reading_of text)
 reply_to source run = run_reply source
@@ -104,6 +106,7 @@ reply_to source (decode digits keys) = decided_reply (decided (map bytes_of keys
 replies_to : (command : Command) (source : Bytes) → IsCommand command → OnText IsUtf8 command → Replies command source (reply_to source command)
 replies_to (script rules text) source is utf8 = (reading_of text, has_reading text utf8, refl)
 replies_to (asm rules text) source is utf8 = (reading_of text, has_reading text utf8, refl)
+replies_to (outline rules text) source is utf8 = (reading_of text, has_reading text utf8, refl)
 replies_to (check rules text) source is utf8 = (reading_of text, has_reading text utf8, refl)
 replies_to (satisfy choice rules text) source is utf8 = (reading_of text, has_reading text utf8, refl)
 replies_to run source is utf8 = refl
@@ -138,6 +141,7 @@ replies_to_words words source utf8 = go (command_of words) refl utf8
 abbrev pub is_ascii_text : Command → Bool
 is_ascii_text (script rules text) = list_all is_ascii text
 is_ascii_text (asm rules text) = list_all is_ascii text
+is_ascii_text (outline rules text) = list_all is_ascii text
 is_ascii_text (check rules text) = list_all is_ascii text
 is_ascii_text (satisfy choice rules text) = list_all is_ascii text
 is_ascii_text (policy text) = list_all is_ascii text

@@ -13,6 +13,7 @@ use Rattle.def_policy.specs.LeastKeys.{least_keys}
 use Rattle.def_answer.specs.TheHeight.{the_height}
 use Rattle.def_answer.specs.Script.{script_report}
 use Rattle.def_answer.specs.Asm.{asm_report}
+use Rattle.def_answer.specs.Outline.{outline_report, unfit_report}
 use Rattle.def_answer.specs.Check.{check_report}
 use Rattle.def_answer.specs.Satisfy.{satisfy_report}
 use Rattle.def_answer.specs.Run.{run_report}
@@ -29,6 +30,7 @@ use Rattle.ms_answer_laws.proofs.Decided.{decided}
 use Rattle.ms_answer_laws.proofs.Forms.{children_of}
 
 unfoldable pub answers_on_literals : ⊤
-unfolding script_report asm_report check_report satisfy_report run_report policy_report plan_report audit_report trace_report traces plan_file_of decode_report decided natural_of fits
-    the_limits limits_exist the_height height_exists least_keys gen_report gen_reply computing hash256 correctness_rows malleability_rows files_on_literals children_of digits
+unfolding script_report asm_report outline_report unfit_report check_report satisfy_report run_report policy_report plan_report audit_report trace_report
+    traces plan_file_of decode_report decided natural_of fits the_limits limits_exist the_height height_exists least_keys gen_report
+    gen_reply computing hash256 correctness_rows malleability_rows files_on_literals children_of digits
 answers_on_literals = tt

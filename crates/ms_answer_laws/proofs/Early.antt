@@ -19,7 +19,7 @@ use Rattle.def_plan.specs.PlanFile.{plan_file_of}
 use Rattle.def_answer.specs.Satisfy.{chosen_by, reason_by}
 use Rattle.def_answer.specs.declared.status.Status.{Status}
 use Rattle.def_answer.specs.declared.status.Status.TheVariants as status
-use Rattle.def_answer.specs.Words.{IsForm, Command, script, asm, check, satisfy, gen, policy, plan, audit, trace, trace_text, decode}
+use Rattle.def_answer.specs.Words.{IsForm, Command, script, asm, outline, check, satisfy, gen, policy, plan, audit, trace, trace_text, decode}
 use Rattle.def_answer.specs.Words as words
 use Rattle.def_answer.specs.Lines.{MOST_FILE}
 use Rattle.def_answer.specs.Files.{file_too_long_line, file_line}
@@ -28,7 +28,7 @@ use Rattle.def_answer.specs.Audit.{wrong_script_line}
 use Rattle.def_answer.specs.Reading.{Reading, HasReading}
 use Rattle.def_answer.specs.Reading as reading
 use Rattle.def_answer.specs.Reply.{Reply, reply, unless_unfit, text_reply, with_file, file_reply, chosen_reply, satisfy_reply, outcome_reply, given_by, run_reply, audited_reply, witness_reply, audit_reply, planned_reply, plan_reply, outcome_status, traced_reply, trace_reply, text_traced_reply, text_trace_reply}
-use Rattle.def_answer.specs.Answer.{script_reply, asm_reply, check_reply, policy_reply, gen_reply, RepliesToText, offsets_of, RepliesWithPlaces, RepliesToAudit, Replies, RepliesToWords}
+use Rattle.def_answer.specs.Answer.{script_reply, asm_reply, outlined_reply, tree_reply, no_reason, check_reply, policy_reply, gen_reply, RepliesToText, offsets_of, RepliesWithPlaces, RepliesToAudit, Replies, RepliesToWords}
 use Rattle.def_answer.specs.Sources.{Passes}
 use Rattle.ms_answer_laws.specs.Laws.{IsAnswered, AnswersHaveStatus, NoReadingIsOfDecode, NotAcceptedIsOfWitness, LongAssetFile, LongRunFile, LongPlanFile, LongAuditFile, LongTraceFile, LongTextTraceFile}
 
@@ -119,6 +119,11 @@ module _ (P : Status → Type 0) where
   placed_status text reason next r refusal after (found, has, e) =
       text_status text reason (next (offsets_of found)) r refusal (λ passes. after passes (offsets_of found)) (found, has, e)
 
+  -- the nodes of a tree are told, and it is refused where it isn't sane
+  pub tree_status : (rules : Rules) (offsets : List ℕ) (tree : Tree) → P status.Done → P status.TextRefused → OfStatus P (tree_reply rules offsets tree)
+  tree_status rules offsets tree done refusal =
+      elim (first_unfit_under rules tree) as (λ o. OfStatus P (outlined_reply offsets tree o)) [ None ↦ done | Some unfit ↦ refusal ]
+
 -- ---- the replies to words
 
 module _ (ws : List Bytes) where
@@ -134,6 +139,8 @@ module _ (ws : List Bytes) where
   reply_status (script rules text) source r form h = text_status StatusOf text (first_unfit_valid_under rules) script_reply r tt (λ passes. tt) h
   reply_status (asm rules text) source r form h =
       placed_status StatusOf text (first_unfit_valid_under rules) asm_reply r tt (λ passes offsets. tt) h
+  reply_status (outline rules text) source r form h =
+      placed_status StatusOf text no_reason (tree_reply rules) r tt (λ passes offsets. tree_status StatusOf rules offsets passes.0 tt tt) h
   reply_status (check rules text) source r form h = text_status StatusOf text (first_unfit_under rules) (check_reply rules) r tt (λ passes. tt) h
   reply_status (satisfy choice rules text) source r form h =
       text_status StatusOf text (reason_by choice rules) (satisfy_reply rules (chosen_by choice) source) r tt

@@ -14,7 +14,7 @@ use Rattle.def_script.specs.Bytes.{Bytes}
 use Rattle.def_text.specs.Word.{key_of}
 use Rattle.def_sane.specs.declared.Rules.TheVariants.{Policy, Consensus}
 use Rattle.def_choice.specs.declared.choice.Choice.TheVariants.{Strict, Cheapest}
-use Rattle.def_answer.specs.Words.{Command, script, asm, check, satisfy, run, gen, policy, plan, audit, trace, trace_text, decode, words_of, MOST_GENERATED, IsCommand, IsForm, HasNoForm}
+use Rattle.def_answer.specs.Words.{Command, script, asm, outline, check, satisfy, run, gen, policy, plan, audit, trace, trace_text, decode, words_of, MOST_GENERATED, IsCommand, IsForm, HasNoForm}
 
 -- the number of 1 to 30 that a word spells
 unfoldable pub children_of : Bytes → Option ℕ
@@ -30,6 +30,7 @@ abbrev pub two_words : (first second : Bytes) → Option Command
 two_words first second =
     if bytes_eq first (codes "script") then Some (script Policy second)
     else if bytes_eq first (codes "asm") then Some (asm Policy second)
+    else if bytes_eq first (codes "tree") then Some (outline Policy second)
     else if bytes_eq first (codes "check") then Some (check Policy second)
     else if bytes_eq first (codes "satisfy") then Some (satisfy Strict Policy second)
     else if bytes_eq first (codes "gen") then option_map gen (children_of second)
@@ -43,6 +44,7 @@ abbrev pub consensus_words : (first text : Bytes) → Option Command
 consensus_words first text =
     if bytes_eq first (codes "script") then Some (script Consensus text)
     else if bytes_eq first (codes "asm") then Some (asm Consensus text)
+    else if bytes_eq first (codes "tree") then Some (outline Consensus text)
     else if bytes_eq first (codes "check") then Some (check Consensus text)
     else if bytes_eq first (codes "satisfy") then Some (satisfy Strict Consensus text)
     else None
@@ -107,6 +109,7 @@ children_found n some few =
 pub command_found : (command : Command) → IsCommand command → command_of (words_of command) ≡ Some command
 command_found (script Policy text) h = refl
 command_found (asm Policy text) h = refl
+command_found (outline Policy text) h = refl
 command_found (check Policy text) h = refl
 command_found (satisfy Strict Policy text) h = refl
 command_found (satisfy Cheapest Policy text) h = refl
@@ -156,20 +159,22 @@ two_form : (first second : Bytes) (c : Command) → two_words first second ≡ S
 two_form first second c =
     branch _ c _ _ _ (named first (codes "script") _ (script Policy second) c refl tt) (
     branch _ c _ _ _ (named first (codes "asm") _ (asm Policy second) c refl tt) (
+    branch _ c _ _ _ (named first (codes "tree") _ (outline Policy second) c refl tt) (
     branch _ c _ _ _ (named first (codes "check") _ (check Policy second) c refl tt) (
     branch _ c _ _ _ (named first (codes "satisfy") _ (satisfy Strict Policy second) c refl tt) (
     branch _ c _ _ _ (gen_form first second (children_of second) c refl) (
     branch _ c _ _ _ (named first (codes "policy") _ (policy second) c refl tt) (
     branch _ c _ _ _ (named first (codes "plan") _ (plan second) c refl tt) (
     branch _ c _ _ _ (named first (codes "audit") _ (audit second) c refl tt) (
-    branch _ c _ _ _ (named first (codes "trace") _ (trace_text second) c refl tt) (λ e. cc e)))))))))
+    branch _ c _ _ _ (named first (codes "trace") _ (trace_text second) c refl tt) (λ e. cc e))))))))))
 
 consensus_form : (first third : Bytes) (c : Command) → consensus_words first third ≡ Some c → IsForm (first ∷ codes "--consensus" ∷ third ∷ []) c
 consensus_form first third c =
     branch _ c _ _ _ (named first (codes "script") _ (script Consensus third) c refl tt) (
     branch _ c _ _ _ (named first (codes "asm") _ (asm Consensus third) c refl tt) (
+    branch _ c _ _ _ (named first (codes "tree") _ (outline Consensus third) c refl tt) (
     branch _ c _ _ _ (named first (codes "check") _ (check Consensus third) c refl tt) (
-    branch _ c _ _ _ (named first (codes "satisfy") _ (satisfy Strict Consensus third) c refl tt) (λ e. cc e))))
+    branch _ c _ _ _ (named first (codes "satisfy") _ (satisfy Strict Consensus third) c refl tt) (λ e. cc e)))))
 
 three_form : (first second third : Bytes) (c : Command) → three_words first second third ≡ Some c → IsForm (first ∷ second ∷ third ∷ []) c
 three_form first second third c =

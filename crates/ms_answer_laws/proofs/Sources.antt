@@ -13,16 +13,16 @@ use Rattle.def_audit.specs.declared.Step.{Step}
 use Rattle.def_answer.specs.Satisfy.{chosen_by, reason_by}
 use Rattle.def_answer.specs.declared.status.Status.{Status}
 use Rattle.def_answer.specs.declared.status.Status.TheVariants as status
-use Rattle.def_answer.specs.Words.{Command, script, asm, check, satisfy, run, gen, policy, plan, audit, trace, trace_text, decode}
+use Rattle.def_answer.specs.Words.{Command, script, asm, outline, check, satisfy, run, gen, policy, plan, audit, trace, trace_text, decode}
 use Rattle.def_answer.specs.Reading.{Reading, read, refused, HasReading}
 use Rattle.def_answer.specs.Reply.{Reply, reply, unless_unfit, text_reply, satisfy_reply, plan_reply, audit_reply, text_trace_reply}
 use Rattle.def_answer.specs.Lines.{MOST_FILE}
-use Rattle.def_answer.specs.Answer.{script_reply, asm_reply, check_reply, policy_reply, gen_reply, RepliesToText, AreSteps, HasSteps, offsets_of, RepliesToAudit, RepliesToTrace, Replies, RepliesToWords}
+use Rattle.def_answer.specs.Answer.{script_reply, asm_reply, tree_reply, no_reason, check_reply, policy_reply, gen_reply, RepliesToText, AreSteps, HasSteps, offsets_of, RepliesToAudit, RepliesToTrace, Replies, RepliesToWords}
 use Rattle.def_answer.specs.Sources.{Passes, NeedsSource, ReadsSource, IsOfSource, IsToFile}
 use Rattle.ms_answer_laws.specs.Laws.{AnswerWithoutSource, StatusWithoutSource, StatusWithSource}
 use Rattle.ms_answer_laws.proofs.Decided.{none_tells}
 use Rattle.ms_answer_laws.proofs.Answered.{OnText, reading_of, has_reading}
-use Rattle.ms_answer_laws.proofs.Early.{OfStatus, satisfy_status, run_status, plan_status, audit_status, trace_status, text_trace_status, text_status, audited_status, placed_status, long_asset_file, long_run_file, long_plan_file, long_audit_file, long_trace_file, long_text_trace_file}
+use Rattle.ms_answer_laws.proofs.Early.{OfStatus, satisfy_status, run_status, plan_status, audit_status, trace_status, text_trace_status, text_status, audited_status, placed_status, tree_status, long_asset_file, long_run_file, long_plan_file, long_audit_file, long_trace_file, long_text_trace_file}
 use Rattle.ms_answer_laws.proofs.Forms.{command_of, form_found}
 use Rattle.ms_answer_laws.proofs.Unique.{one_form, one_reading, text_of_form}
 
@@ -85,6 +85,8 @@ other_status (script rules text) source r never h =
     text_status IsOther text (first_unfit_valid_under rules) script_reply r (λ s. s) (λ passes s. s) h
 other_status (asm rules text) source r never h =
     placed_status IsOther text (first_unfit_valid_under rules) asm_reply r (λ s. s) (λ passes offsets s. s) h
+other_status (outline rules text) source r never h =
+    placed_status IsOther text no_reason (tree_reply rules) r (λ s. s) (λ passes offsets. tree_status IsOther rules offsets passes.0 (λ s. s) (λ s. s)) h
 other_status (check rules text) source r never h =
     text_status IsOther text (first_unfit_under rules) (check_reply rules) r (λ s. s) (λ passes s. s) h
 other_status (satisfy choice rules text) source r never h =

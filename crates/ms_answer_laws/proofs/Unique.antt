@@ -12,10 +12,10 @@ use Rattle.def_sane.specs.Unfit.{first_unfit, first_unfit_valid, first_unfit_und
 use Rattle.def_audit.specs.declared.Step.{Step}
 use Rattle.def_choice.specs.declared.choice.Choice.TheVariants.{Strict, Cheapest}
 use Rattle.def_answer.specs.Satisfy.{chosen_by, reason_by}
-use Rattle.def_answer.specs.Words.{Command, script, asm, check, satisfy, run, gen, policy, plan, audit, trace, trace_text, decode, words_of, IsForm, HasNoForm}
+use Rattle.def_answer.specs.Words.{Command, script, asm, outline, check, satisfy, run, gen, policy, plan, audit, trace, trace_text, decode, words_of, IsForm, HasNoForm}
 use Rattle.def_answer.specs.Reading.{Reading, read, refused, HasReading}
 use Rattle.def_answer.specs.Reply.{Reply, reply, unless_unfit, text_reply, satisfy_reply, plan_reply, audit_reply, text_trace_reply}
-use Rattle.def_answer.specs.Answer.{script_reply, asm_reply, check_reply, policy_reply, decode_reply, bytes_of, RepliesToScript, RepliesToText, HasSteps, offsets_of, RepliesWithPlaces, RepliesToAudit, Replies, RepliesToWords}
+use Rattle.def_answer.specs.Answer.{script_reply, asm_reply, tree_reply, no_reason, check_reply, policy_reply, decode_reply, bytes_of, RepliesToScript, RepliesToText, HasSteps, offsets_of, RepliesWithPlaces, RepliesToAudit, Replies, RepliesToWords}
 use Rattle.ms_answer_laws.specs.Laws.{OneForm, FormOrNone, OneAnswer, SomeAnswer}
 use Rattle.ms_answer_laws.proofs.Forms.{command_of, is_form, form_found, none_has_form}
 use Rattle.ms_answer_laws.proofs.AuditSteps.{one_audit}
@@ -39,6 +39,8 @@ text_of_words P (script Policy text) h = h 1 [] (omega arith)
 text_of_words P (script Consensus text) h = h 2 [] (omega arith)
 text_of_words P (asm Policy text) h = h 1 [] (omega arith)
 text_of_words P (asm Consensus text) h = h 2 [] (omega arith)
+text_of_words P (outline Policy text) h = h 1 [] (omega arith)
+text_of_words P (outline Consensus text) h = h 2 [] (omega arith)
 text_of_words P (check Policy text) h = h 1 [] (omega arith)
 text_of_words P (check Consensus text) h = h 2 [] (omega arith)
 text_of_words P (satisfy Strict Policy text) h = h 1 [] (omega arith)
@@ -100,6 +102,7 @@ one_placed_reply text reason next a b utf8 (r, has, e) (s, has_s, f) =
 pub one_reply : (c : Command) (source : Bytes) (a b : Reply) → OnText IsUtf8 c → Replies c source a → Replies c source b → a ≡ b
 one_reply (script rules text) source a b utf8 h k = one_text_reply text (first_unfit_valid_under rules) script_reply a b utf8 h k
 one_reply (asm rules text) source a b utf8 h k = one_placed_reply text (first_unfit_valid_under rules) asm_reply a b utf8 h k
+one_reply (outline rules text) source a b utf8 h k = one_placed_reply text no_reason (tree_reply rules) a b utf8 h k
 one_reply (check rules text) source a b utf8 h k = one_text_reply text (first_unfit_under rules) (check_reply rules) a b utf8 h k
 one_reply (satisfy choice rules text) source a b utf8 h k = one_text_reply text (reason_by choice rules) (satisfy_reply rules (chosen_by choice) source) a b utf8 h k
 one_reply run source a b utf8 h k = h ∙ sym k

@@ -8,6 +8,7 @@ pub mod RunExamples
 pub mod AuditExamples
 pub mod TraceExamples
 pub mod AsmExamples
+pub mod OutlineExamples
 pub mod GenExamples
 pub mod SourceExamples
 pub mod ConsensusExamples

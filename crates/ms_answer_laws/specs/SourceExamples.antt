@@ -20,6 +20,7 @@ WordsThatDoNot =
     ¬ ReadsSource (codes "run" ∷ codes "0" ∷ [])
     × ¬ ReadsSource (codes "script" ∷ pk A ∷ [])
     × ¬ ReadsSource (codes "asm" ∷ pk A ∷ [])
+    × ¬ ReadsSource (codes "tree" ∷ pk A ∷ [])
     × ¬ ReadsSource (codes "check" ∷ pk A ∷ [])
     × ¬ ReadsSource (codes "gen" ∷ codes "4" ∷ [])
     × ¬ ReadsSource (codes "policy" ∷ pk A ∷ [])

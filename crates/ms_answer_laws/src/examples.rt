@@ -91,6 +91,12 @@ ghost use Rattle.ms_answer_laws.specs.AsmExamples.{
   ListedTexts,
   NoFormOfListing,
 };
+ghost use Rattle.ms_answer_laws.specs.OutlineExamples.{
+  OutlinedChoice,
+  OutlinedRule,
+  OutlinedMalleable,
+  OutlinedWords,
+};
 ghost use Rattle.ms_answer_laws.specs.GenExamples.{
   GenOne,
   GenFour,
@@ -227,6 +233,14 @@ pub fn listed()
     ensures choice { ListedChoice }
     ensures texts { ListedTexts }
     ensures no_form { NoFormOfListing }
+{}
+
+/// Answers to `tree TEXT`.
+pub fn outlined()
+    ensures choice { OutlinedChoice }
+    ensures rule { OutlinedRule }
+    ensures malleable { OutlinedMalleable }
+    ensures words { OutlinedWords }
 {}
 
 /// Answers to `gen N`.

@@ -7,6 +7,7 @@ pub use expression::{Expression, Named, Seen};
 pub use ms_paths::{Origin, Way};
 pub use parts::{Body, Descriptor, Found, read_parts};
 pub use pieces::Piece;
+pub use sample::place_in_text;
 pub use tail::read_tail;
 
 mod answer;

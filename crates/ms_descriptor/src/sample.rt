@@ -1,6 +1,7 @@
 //! The text of a miniscript with some key in the place of each expression, and where what stands there stands in the descriptor.
 
-ghost use Rattle.std.specs.Prelude.{◌≡◌, ◌<◌, ◌^◌, [], ◌∷◌, ◌++◌, map, OnOk};
+ghost use Rattle.std.specs.Prelude.{◌≡◌, ◌<◌, ◌^◌, [], ◌∷◌, ◌++◌, ◌≤◌, length, map, OnOk};
+ghost use Rattle.def_text.specs.Refusal.{MOST_BYTES};
 ghost use Rattle.def_descriptor.specs.Pieces.{place_of as the_place_of};
 ghost use Rattle.def_descriptor.specs.Gives.{pieces_in};
 ghost use Rattle.def_descriptor.specs.Answer.{sample as the_sample, stop};
@@ -108,14 +109,14 @@ fn end_of(found: &Found) -> usize
     found.rest
 }
 
-/// Where an offset in the text of a body stands in the descriptor.
-pub fn place_in(text: &[u8], found: &Found, offset: usize) -> usize
-    requires { FoundWithin text.now found.now }
-    ensures place { result ≡ the_place_of (end_at found.now.refused found.now.rest) (pieces_in (body_at text.now found.now.body)) offset }
+/// Where an offset in the text of a body stands in the descriptor: behind the text at an end.
+fn place_before(end: usize, text: &[u8], body: &Body, offset: usize) -> usize
+    requires within { BodyWithin text.now body.now }
+    requires end { IsPlace text.now end }
+    ensures place { result ≡ the_place_of end (pieces_in (body_at text.now body.now)) offset }
     ensures bound { result < 2 ^ 32 }
 {
-    let end = end_of(found);
-    match &found.body {
+    match body {
         Body::Miniscript(pieces) => place_of(end, text, pieces, offset),
         Body::Sorted(at, pieces) => {
             if offset < MULTI.len() {
@@ -125,4 +126,24 @@ pub fn place_in(text: &[u8], found: &Found, offset: usize) -> usize
         }
         Body::Single(_) => end,
     }
+}
+
+/// Where an offset in the text of a body stands in the descriptor.
+pub fn place_in(text: &[u8], found: &Found, offset: usize) -> usize
+    requires { FoundWithin text.now found.now }
+    ensures place { result ≡ the_place_of (end_at found.now.refused found.now.rest) (pieces_in (body_at text.now found.now.body)) offset }
+    ensures bound { result < 2 ^ 32 }
+{
+    place_before(end_of(found), text, &found.body, offset)
+}
+
+/// Where an offset in the text of a body's miniscript, with the digits of keys in place of its expressions, stands in the
+/// descriptor's text, which isn't too long. Takes no memory.
+pub fn place_in_text(text: &[u8], body: &Body, offset: usize) -> usize
+    requires within { BodyWithin text.now body.now }
+    requires short { length text.now ≤ MOST_BYTES }
+    ensures place { result ≡ the_place_of 0 (pieces_in (body_at text.now body.now)) offset }
+    ensures bound { result < 2 ^ 32 }
+{
+    place_before(0, text, body, offset)
 }

@@ -8,7 +8,7 @@ use Rattle.std.proofs.lemmas.Map.Keys.{IsDistinct-push}
 use Rattle.def_script.specs.Bytes.{Bytes, IsBytes}
 use Rattle.def_machine.specs.declared.Locks.{Locks}
 use Rattle.def_tree.specs.Range.{IsKey}
-use Rattle.def_assets.specs.Assets.{Assets, IsSignature, same_pair}
+use Rattle.def_assets.specs.Assets.{Assets, IsSignature, same_pair, unsigned}
 use Rattle.def_files.specs.AssetFile.{is_signature}
 use Rattle.def_files.specs.Laws.{AreFewAssets}
 use Rattle.ms_held.specs.Adding.{size_stop}
@@ -28,6 +28,23 @@ none_few locks version sequence locktime = record {
   };
   signatures = omega arith;
   preimages = omega arith;
+}
+
+-- without signatures
+pub unsigned_few : (assets : Assets) → AreFewAssets assets → AreFewAssets (unsigned assets)
+unfolding IsDistinct
+unsigned_few assets few = record {
+  held = record {
+    keys = λ k d h. absurd (omega arith);
+    signatures = λ k d h. absurd (omega arith);
+    distinct = tt;
+    preimages = few.held.preimages;
+    version = few.held.version;
+    sequence = few.held.sequence;
+    locktime = few.held.locktime;
+  };
+  signatures = omega arith;
+  preimages = few.preimages;
 }
 
 -- with one more signature, which isn't held with its key

@@ -115,21 +115,18 @@ impl Assets {
     pub fn without_signatures(&self, alloc: Global) -> Result<Assets, AllocError>
         ensures { IfOk result (λ made. made ≡ unsigned self.now) }
     {
-        let mut made = Assets::new(alloc, self.locks);
-        for preimage in &self.preimages {
-            made.add_copy(preimage)?;
-        }
-        Ok(made)
+        self.are_assets();
+        self.with_signatures(alloc, Signatures::new(alloc))
     }
 
-    /// Adds a preimage that other assets hold.
-    fn add_copy(&mut self, preimage: &Preimage) -> Result<(), AllocError>
-        ensures { OnOk result (self.new ≡ record self.old { preimages = self.old.preimages ++ preimage.now ∷ [] }) }
+    /// These assets with other signatures, which are few and have their form: the same values of the locks and the same
+    /// preimages. Refuses for want of memory alone.
+    pub fn with_signatures(&self, alloc: Global, pairs: Signatures) -> Result<Assets, AllocError>
+        requires { AreFewAssets (record self.now { pairs = pairs }) }
+        ensures { IfOk result (λ made. made ≡ record self.now { pairs = pairs }) }
     {
-        match self.add_preimage(preimage.as_array()) {
-            Ok(()) => Ok(()),
-            Err(_) => Err(AllocError),
-        }
+        let preimages = copies(alloc, &self.preimages)?;
+        Ok(Assets::of_parts(self.locks, pairs, preimages))
     }
 
     /// Adds a signature with its key at the end: 1 to 73 bytes, of which nothing else is asked. The key has none yet.
@@ -266,6 +263,17 @@ impl Assets {
     {
         self.locks.after_holds(n)
     }
+}
+
+/// The same preimages once more.
+fn copies(alloc: Global, preimages: &[Preimage]) -> Result<Vec<Preimage>, AllocError>
+    ensures { IfOk result (λ made. made.items ≡ preimages.now) }
+{
+    let mut made = Vec::new(alloc);
+    for preimage in preimages {
+        made.push(Preimage::new(*preimage.as_array()))?;
+    }
+    Ok(made)
 }
 
 /// The first preimage that hashes to a value.

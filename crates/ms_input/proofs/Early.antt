@@ -1,5 +1,5 @@
 -- The states of inputs of which no Script is read.
-use Rattle.std.proofs.Common.{Bool, true, false, Option, Some, None, Result, Ok, Err, if◌then◌else◌}
+use Rattle.std.proofs.Common.{◌≡◌, Bool, true, false, Option, Some, None, Result, Ok, Err, if◌then◌else◌, refl}
 use Rattle.std.specs.Prelude.{⊤}
 use Rattle.std.specs.Str.{bytes_eq}
 use Rattle.def_script.specs.Bytes.{Bytes}
@@ -12,29 +12,20 @@ use Rattle.def_spend.specs.Utxo as utxo
 use Rattle.def_spend.specs.Input.{Spend}
 use Rattle.def_spend.specs.Kinds.{is_p2sh, p2sh_of, redeemed, program_in, program_of_utxo, is_script_hash, is_key_hash, spent_utxo, spent_program}
 use Rattle.def_spend.specs.Reading.{has_final, script_for, key_hash_script, script_of_program, script_with, open_script, script_code}
+use Rattle.ms_input.specs.Settled.{is_late}
 
--- a state of which this isn't told
-abbrev pub IsEarly : State → Type 0
-IsEarly state.Final = ⊤
-IsEarly state.NoUtxo = ⊤
-IsEarly state.WrongUtxo = ⊤
-IsEarly state.OtherOutput = ⊤
-IsEarly state.NoScript = ⊤
-IsEarly state.WrongScript = ⊤
-IsEarly other = ⊥
-
--- bytes are found, or the state is an early one
+-- bytes are found, or a state that doesn't hang on what the map holds
 abbrev pub IsTold : Result Bytes State → Type 0
 IsTold (Ok bytes) = ⊤
-IsTold (Err told) = IsEarly told
+IsTold (Err told) = is_late told ≡ false
 
 told_redeemed : (spent : Bytes) (o : Option Bytes) → IsTold (redeemed spent o)
-told_redeemed spent None = tt
+told_redeemed spent None = refl
 told_redeemed spent (Some redeem) = go (bytes_eq spent (p2sh_of redeem))
   where
     go : (b : Bool) → IsTold (if b then Ok redeem else Err state.WrongScript)
     go true = tt
-    go false = tt
+    go false = refl
 
 told_program : (spent : Bytes) (o : Option Bytes) → IsTold (program_in spent o)
 told_program spent o = go (is_p2sh spent)
@@ -44,18 +35,18 @@ told_program spent o = go (is_p2sh spent)
     go false = tt
 
 told_utxo : (spent : Utxo) (o : Option Bytes) → IsTold (program_of_utxo spent o)
-told_utxo utxo.none o = tt
-told_utxo utxo.wrong o = tt
+told_utxo utxo.none o = refl
+told_utxo utxo.wrong o = refl
 told_utxo (utxo.proved output) o = told_program output.script o
 told_utxo (utxo.claimed output) o = told_program output.script o
 
 told_for : (program : Bytes) (o : Option Bytes) → IsTold (script_for program o)
-told_for program None = tt
+told_for program None = refl
 told_for program (Some script) = go (bytes_eq program (program_of script))
   where
     go : (b : Bool) → IsTold (if b then Ok script else Err state.WrongScript)
     go true = tt
-    go false = tt
+    go false = refl
 
 told_script : (program : Bytes) (o : Option Bytes) → IsTold (script_of_program program o)
 told_script program o = go (is_script_hash program) (is_key_hash program)
@@ -63,7 +54,7 @@ told_script program o = go (is_script_hash program) (is_key_hash program)
     go : (b k : Bool) → IsTold (if b then script_for program o else if k then Ok (key_hash_script program) else Err state.OtherOutput)
     go true k = told_for program o
     go false true = tt
-    go false false = tt
+    go false false = refl
 
 told_with : (r : Result Bytes State) (o : Option Bytes) → IsTold r → IsTold (script_with r o)
 told_with (Ok program) o told = told_script program o
@@ -73,5 +64,5 @@ pub is_told : (spend : Spend) → IsTold (script_code spend)
 is_told spend = go (has_final spend.fields)
   where
     go : (b : Bool) → IsTold (if b then Err state.Final else open_script spend)
-    go true = tt
+    go true = refl
     go false = told_with (spent_program spend) (field WITNESS_SCRIPT spend.fields) (told_utxo (spent_utxo spend) (field REDEEM_SCRIPT spend.fields))

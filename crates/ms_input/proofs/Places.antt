@@ -1,14 +1,20 @@
 -- Where an input stands in a PSBT.
-use Rattle.std.proofs.Common.{◌≡◌, ℕ, zero, suc, ◌+◌, List, [], ◌∷◌, slice_get, Some, Option, sym, ap, ◌∙◌, arith}
+use Rattle.std.proofs.Common.{◌≡◌, ℕ, zero, suc, ◌+◌, List, [], ◌∷◌, slice_get, All, Some, Option, sym, ap, subst, ◌∙◌, arith}
 use Rattle.std.specs.Option.{unwrap_or}
+use Rattle.std.proofs.lemmas.List.Elements.{All-head, All-tail}
+use Rattle.def_assets.specs.Assets.{AreAssets}
 use Rattle.def_machine.specs.declared.Locks.{Locks}
 use Rattle.def_psbt.specs.Transaction.{TransactionInput, Transaction}
 use Rattle.def_psbt.specs.Map.{Map, Psbt}
 use Rattle.def_spend.specs.declared.Verification.{Verification}
+use Rattle.def_spend.specs.declared.Verification.TheVariants.{Unverified}
+use Rattle.def_spend.specs.Good.{assets_of}
 use Rattle.def_spend.specs.Input.{Spend, spends_from, spends_of, locks_of}
-use Rattle.ms_fields.specs.Held.{Held, held_in}
+use Rattle.ms_input.specs.Held.{Held, held_in, all_assets}
 use Rattle.ms_input.specs.Seen.{nowhere, spend_at}
+use Rattle.ms_input.specs.Verified.{HaveAssets}
 use Rattle.ms_input.specs.Scaffolding.Kept.{IsAt}
+use Rattle.ms_input.proofs.Judged.{all_count}
 
 abbrev spend : Verification → Transaction → ℕ → TransactionInput → Map → Spend
 spend verification transaction number input fields = record { verification = verification; transaction = transaction; number = number; input = input; fields = fields }
@@ -37,10 +43,11 @@ from_number verification transaction first (i ∷ inputs) (m ∷ maps) (suc k) i
     ∙ ap (λ (n : ℕ). some (spend verification transaction n input fields)) same_number
 
 -- the input with a number, by what the transaction says of it and by its map
-pub is_at : (verification : Verification) (psbt : Psbt) (number : ℕ) (input : TransactionInput) (fields : Map) (held : Held) →
-    slice_get psbt.transaction.inputs number ≡ Some input → slice_get psbt.inputs number ≡ Some fields → held ≡ held_in fields →
+pub is_at : (verification : Verification) (psbt : Psbt) (given : Transaction) (number : ℕ) (input : TransactionInput) (fields : Map) (held : Held) →
+    given ≡ psbt.transaction → slice_get given.inputs number ≡ Some input → slice_get psbt.inputs number ≡ Some fields → held ≡ held_in fields →
     IsAt verification psbt number (spend_at verification psbt number) input held
-is_at verification psbt number input fields held e f is =
+is_at verification psbt given number input fields held same read f is =
+    let e : slice_get psbt.transaction.inputs number ≡ Some input = sym (ap (λ (t : Transaction). slice_get t.inputs number) same) ∙ read in
     let zero_first : 0 + number ≡ number = omega arith in
     let there : slice_get (spends_of verification psbt) number ≡ some (spend verification psbt.transaction number input fields) =
     from_number verification psbt.transaction 0 psbt.transaction.inputs psbt.inputs number input fields e f
@@ -69,7 +76,15 @@ locks_are spend transaction given input version sequence lock_time v s l same of
     ∙ ap (λ (n : ℕ). locks spend.transaction.version n lock_time) (s ∙ ap (λ (x : TransactionInput). x.sequence) same_input)
     ∙ ap (λ (n : ℕ). locks spend.transaction.version spend.input.sequence n) (l ∙ ap (λ (x : Transaction). x.lock_time) t)
 
--- what the transaction that is handed in says of it
-pub input_is : (transaction given : Transaction) (number : ℕ) (input : TransactionInput) → given ≡ transaction → slice_get given.inputs number ≡ Some input →
-    slice_get transaction.inputs number ≡ Some input
-input_is transaction given number input same e = sym (ap (λ (t : Transaction). slice_get t.inputs number) same) ∙ e
+-- what its map holds are assets, whichever of its signatures count
+at_place : {A : Type 0} (P : A → Type 0) (xs : List A) (i : ℕ) (x : A) → All P xs → slice_get xs i ≡ Some x → P x
+at_place P [] i x h e = absurd cc
+at_place P (y ∷ ys) zero x h e = let same : y ≡ x = cc in subst P same (All-head P y ys h)
+at_place P (y ∷ ys) (suc i) x h e = at_place P ys i x (All-tail P y ys h) e
+
+pub are_assets : (psbt : Psbt) (number : ℕ) (input : TransactionInput) (held : Held) (values : Locks) → HaveAssets psbt
+    → IsAt Unverified psbt number (spend_at Unverified psbt number) input held → values ≡ locks_of (spend_at Unverified psbt number) → AreAssets (all_assets values held)
+are_assets psbt number input held values have at same =
+    let own = spend_at Unverified psbt number in
+    subst AreAssets (sym (all_count own held values at.fields same at.same_verification))
+    (at_place (λ (s : Spend). AreAssets (assets_of s)) (spends_of Unverified psbt) number own have at.there)

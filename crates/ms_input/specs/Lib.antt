@@ -1,3 +1,13 @@
+pub mod Held
+pub mod Kinds
+pub mod Adding
+pub mod Spending
+pub mod Settled
+pub mod Witnesses
+pub mod Asked
+pub mod Checking
+pub mod Verdicts
+pub mod Signing
 pub mod Seen
 pub mod Verified
 pub mod Scaffolding

@@ -15,28 +15,27 @@ ghost use Rattle.def_spend.specs.Utxo.{utxo_of, amount_of};
 ghost use Rattle.def_verify.specs.Verdict.{final_verdict as the_final_verdict};
 ghost use Rattle.def_tree.specs.InRange.{IsInRange};
 ghost use Rattle.def_tree.specs.Tree.{Tree as TheTree};
-ghost use Rattle.ms_asking.specs.Asked.{asked_plan as the_asked_plan};
-ghost use Rattle.ms_finalize.specs.Settled.{words_in};
-ghost use Rattle.ms_finalize.specs.Witnesses.{IsReplayed};
+ghost use Rattle.ms_input.specs.Asked.{asked_plan as the_asked_plan};
+ghost use Rattle.ms_input.specs.Settled.{words_in};
+ghost use Rattle.ms_input.specs.Witnesses.{IsReplayed};
 ghost use Rattle.ms_input.specs.Seen.{input_seen};
-ghost use Rattle.ms_input.specs.Verified.{IsVerifying, verification_of as the_verification_of};
+ghost use Rattle.ms_input.specs.Verified.{HaveAssets, IsVerifying, verification_of as the_verification_of};
 ghost use Rattle.ms_sighash.specs.Shared.{shared_of, IsOutputText};
 ghost use Rattle.ms_transaction.specs.Unsigned.{IsUnsigned};
 ghost use Rattle.ms_tree.specs.Shape.{shape};
-ghost use Rattle.ms_utxo.specs.Spending.{amount_seen};
-ghost use Rattle.ms_verify.specs.Seen.{verdict_seen};
-ghost use Rattle.ms_verify.specs.Signing.{IsAsked};
+ghost use Rattle.ms_input.specs.Spending.{amount_seen};
+ghost use Rattle.ms_input.specs.Verdicts.{verdict_seen};
+ghost use Rattle.ms_input.specs.Signing.{IsAsked};
 
-use crate::gathering::fields_of;
-use crate::scripts::{bytes_or_none, copied, ends_in_script, script_or_none, script_sig_by};
-use crate::signing::{known_amount, signed_hash};
-use crate::verifying::{Verifying, asked_hash, judging, verification_of, words_of};
+use crate::asking::asked_plan;
+use crate::fields::{Fields, SignedRef, bytes_or};
+use crate::finalize::{Settled, final_witness, key_witness};
+use crate::utxo::{Amount, ScriptCode, spending};
+use crate::verify::{ConsensusCheck, Verdict, final_verdict, input_check};
 use bumpalo::Bump;
-use def_spend::Verification;
-use ms_asking::asked_plan;
-use ms_fields::{Fields, SignedRef};
-use ms_finalize::{Judgement, final_witness, key_witness, settle};
-use ms_held::Assets;
+use def_curve::Judgement;
+use def_spend::{Kind, State, Verification};
+pub use gathering::fields_of;
 use ms_oracle::Locks;
 use ms_plan::Plan;
 use ms_psbt::Psbt;
@@ -44,10 +43,18 @@ use ms_script::{Blob, Stack};
 use ms_sighash::SharedHashes;
 use ms_transaction::{InputRef, TransactionRef};
 use ms_tree::Tree;
-use ms_utxo::{Amount, Kind, ScriptCode, State, spending};
-use ms_verify::{ConsensusCheck, Verdict, final_verdict, input_check};
+use scripts::{copied, ends_in_script, script_or_none, script_sig_by};
+pub use signing::shared_hashes;
+use signing::{known_amount, signed_hash};
 use std::alloc::{AllocError, Global};
 use std::marker::Model;
+pub use verifying::Verifying;
+use verifying::{settled_by, verification_of, words_of};
+
+mod gathering;
+mod scripts;
+mod signing;
+mod verifying;
 
 /// An input of a PSBT that was read: what its map holds, its amount, the kind of its output, its Script, its state, the miniscript
 /// that its Script is read as, what its signatures are where they are judged, and its satisfaction where it is Ready. Contracts see where it stands in the PSBT and the miniscript,
@@ -62,18 +69,12 @@ pub struct Input<'p, 't> {
     amount: Amount,
     kind: Kind,
     script: ScriptCode<'p>,
-    tree: Option<Tree<'t>>,
-    state: State,
-    assets: Option<Assets>,
-    words: Option<Vec<Judgement>>,
-    stack: Option<Stack>,
+    settled: Settled<'t>,
 }
 
 impl<'p, 't> Model for Input<'p, 't> {
-    ghost use Rattle.std.specs.Prelude.{option_map};
     ghost use Rattle.std.specs.Coded.{codes};
-    ghost use Rattle.ms_tree.specs.Shape.{shape};
-    ghost use Rattle.ms_utxo.specs.Spending.{code_seen};
+    ghost use Rattle.ms_input.specs.Spending.{code_seen};
     ghost use Rattle.ms_input.specs.Seen.{Seen, spend_at, tree_code};
     ghost use Rattle.ms_input.specs.Scaffolding.Kept.{IsRead};
 
@@ -81,16 +82,16 @@ impl<'p, 't> Model for Input<'p, 't> {
 
     ghost coded = { Prim.hlevel (codes, tree_code) };
 
-    ghost view = { λ i. record { spend = spend_at i.verification i.psbt.now i.number; tree = i.tree } };
+    ghost view = { λ i. record { spend = spend_at i.verification i.psbt.now i.number; tree = i.settled.tree } };
 
-    ghost invariant = { λ i. IsRead i.verification i.psbt.now i.number i.input i.fields i.amount i.kind (code_seen i.script) (option_map shape i.tree) i.state i.assets
-        (option_map (λ w. w.items) i.words) i.stack };
+    ghost invariant = { λ i. IsRead i.verification i.psbt.now i.number i.input i.fields i.amount i.kind (code_seen i.script) i.settled };
 }
 
 impl<'p, 't> Input<'p, 't> {
     /// Reads the input of a PSBT with this number, from 0, where this is its transaction: gathers what its map holds, looks for the output that it spends, and
     /// reads its Script with the keys of its map. Where the good signatures count, each is judged, once, if nothing else is wrong. The
-    /// miniscript is put into the arena, which serves this input alone where it is let go with it. Refuses for want of memory alone.
+    /// miniscript is put into the arena, which serves this input alone where it is let go with it. It demands that what the maps hold are
+    /// assets, as those of a source of bytes do. Refuses for want of memory alone.
     pub fn read(
         alloc: Global,
         arena: &'t Bump<Global>,
@@ -103,6 +104,7 @@ impl<'p, 't> Input<'p, 't> {
         requires verifying { IsVerifying verifying psbt.now.transaction number }
         requires unsigned { All IsUnsigned transaction.now.inputs }
         requires number { number < length psbt.now.inputs }
+        requires assets { HaveAssets psbt.now }
         ensures spend { IfOk result (λ input. slice_get (spends_of (the_verification_of verifying.entry) psbt.entry.now) number ≡ Some input.spend) }
         ensures verification { IfOk result (λ input. input.spend.verification ≡ the_verification_of verifying.entry) }
         ensures transaction { IfOk result (λ input. input.spend.transaction ≡ psbt.entry.now.transaction) }
@@ -115,58 +117,30 @@ impl<'p, 't> Input<'p, 't> {
         let input = transaction.input(number);
         let fields = fields_of(alloc, psbt.input_map(number))?;
         let spent = spending(&input, &fields);
-        let guarding = script_or_none(&spent.script);
         let locks = Locks {
             version: transaction.version(),
             sequence: input.sequence(),
             locktime: transaction.lock_time(),
         };
-        let verification = verification_of(verifying);
-        match spent.script {
-            Ok(script) => {
-                let bytes = script.as_slice();
-                let hash = asked_hash(verifying, fields.asked_type(), &input, bytes, spent.amount);
-                let judging = judging(verifying, &hash);
-                let settled = settle(alloc, arena, bytes, &fields, locks, judging)?;
-                Ok(Input {
-                    verification,
-                    psbt,
-                    number,
-                    input,
-                    fields,
-                    amount: spent.amount,
-                    kind: spent.kind,
-                    script: guarding,
-                    tree: settled.tree,
-                    state: settled.state,
-                    assets: settled.assets,
-                    words: settled.words,
-                    stack: settled.stack,
-                })
-            }
-            Err(state) => Ok(Input {
-                verification,
-                psbt,
-                number,
-                input,
-                fields,
-                amount: spent.amount,
-                kind: spent.kind,
-                script: guarding,
-                tree: None,
-                state,
-                assets: None,
-                words: None,
-                stack: None,
-            }),
-        }
+        let settled = settled_by(alloc, arena, &input, &fields, &spent, locks, verifying)?;
+        Ok(Input {
+            verification: verification_of(verifying),
+            psbt,
+            number,
+            input,
+            fields,
+            amount: spent.amount,
+            kind: spent.kind,
+            script: script_or_none(&spent.script),
+            settled,
+        })
     }
 
     /// The state. Takes no memory.
     pub fn state(&self) -> State
         ensures { result ≡ state_of (input_seen self.now) }
     {
-        self.state
+        self.settled.state
     }
 
     /// Its number among the inputs, from 0. Takes no memory.
@@ -216,7 +190,7 @@ impl<'p, 't> Input<'p, 't> {
     pub fn words(&self) -> Option<&[Judgement]>
         ensures { option_map (λ w. w.now) result ≡ words_in (state_of (input_seen self.now)) self.now.spend }
     {
-        words_of(&self.words)
+        words_of(&self.settled.words)
     }
 
     /// The number of the hash type that is asked, that of ALL where none is. Takes no memory.
@@ -231,7 +205,7 @@ impl<'p, 't> Input<'p, 't> {
         ensures tree { option_map (λ t. shape t.now) result ≡ (input_seen self.now).tree }
         ensures in_range { IfSome result (λ t. IsInRange (shape t.now)) }
     {
-        self.tree.as_ref()
+        self.settled.tree.as_ref()
     }
 
     /// The satisfaction of a Ready input, bottom first; none of another one. Takes no memory.
@@ -239,7 +213,7 @@ impl<'p, 't> Input<'p, 't> {
         ensures stack { option_map (λ s. s.now) result ≡ (if is_ready (state_of (input_seen self.now)) then Some (stack_of (input_seen self.now)) else None) }
         ensures light { IfSome result (λ s. weight s.now ≤ 2 ^ 40) }
     {
-        self.stack.as_ref()
+        self.settled.stack.as_ref()
     }
 
     /// Which keys to ask for a signature besides those that signed, and what the satisfaction weighs at most; `None` where no
@@ -249,8 +223,8 @@ impl<'p, 't> Input<'p, 't> {
         requires { state_of (input_seen self.now) ≡ State.Unsatisfied }
         ensures { (tree : TheTree) → (input_seen self.now).tree ≡ Some tree → IfOk result (λ found. found ≡ the_asked_plan tree (assets_of self.now.spend)) }
     {
-        let (Some(tree), Some(assets)) = (&self.tree, &self.assets) else {
-            return Ok(None);
+        let (Some(tree), Some(assets)) = (&self.settled.tree, &self.settled.assets) else {
+            unreachable!();
         };
         asked_plan(alloc, tree, assets)
     }
@@ -285,17 +259,17 @@ impl<'p, 't> Input<'p, 't> {
     }
 
     // The final scriptSig of its map, or no byte.
-    fn final_script_sig(&self) -> &[u8]
+    fn final_script_sig(&self) -> &'p [u8]
         ensures { result.now ≡ unwrap_or (field FINAL_SCRIPTSIG self.now.spend.fields) [] }
     {
-        bytes_or_none(self.fields.final_script_sig())
+        bytes_or(self.fields.final_script_sig(), &[])
     }
 
     // The scriptSig of its kind, where that is known.
     fn open_script_sig(&self, alloc: Global) -> Result<Option<Vec<u8>>, AllocError>
         ensures { IfOk result (λ found. option_map (λ v. v.items) found ≡ the_open_script_sig self.now.spend) }
     {
-        script_sig_by(alloc, self.kind, bytes_or_none(self.fields.redeem()))
+        script_sig_by(alloc, self.kind, bytes_or(self.fields.redeem(), &[]))
     }
 
     /// The final witness: the satisfaction, and of P2WSH the witness script as its last item. It demands that the input is Ready.
@@ -309,8 +283,13 @@ impl<'p, 't> Input<'p, 't> {
         ensures accepted { IfOk result (λ witness. the_ends_in_script (kind_of self.now.spend) ≡ true → IsReplayed (assets_of self.now.spend) (script_in self.now.spend) witness) }
         ensures unchangeable { IfOk result (λ witness. (tree : TheTree) → (input_seen self.now).tree ≡ Some tree → Unchangeable tree (assets_of self.now.spend) (stack_of (input_seen self.now))) }
     {
-        let (Some(tree), Some(assets), Some(stack)) = (&self.tree, &self.assets, &self.stack) else {
-            return Err(AllocError);
+        let settled = &self.settled;
+        let (Some(tree), Some(assets), Some(stack)) = (
+            &settled.tree,
+            &settled.assets,
+            &settled.stack,
+        ) else {
+            unreachable!();
         };
         if ends_in_script(self.kind) {
             final_witness(alloc, tree, self.script.as_slice(), assets, stack)

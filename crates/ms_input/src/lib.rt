@@ -1,18 +1,18 @@
-//! An input of a PSBT, read: its state, its satisfaction, its final scriptSig and witness, whom to ask, and what its signatures sign.
+//! An input of a PSBT, read: what its map holds, what it spends, its state and its satisfaction, its final scriptSig and witness,
+//! whom to ask, what its signatures sign, and whether its final fields are valid.
 #![tactic(auto)]
 
-pub use def_spend::Verification;
-pub use gathering::fields_of;
-pub use input::Input;
-pub use ms_fields::SignedRef;
-pub use ms_finalize::Judgement;
-pub use ms_utxo::{Amount, Kind, State};
-pub use ms_verify::{ConsensusCheck, Flaw, Verdict};
-pub use signing::shared_hashes;
-pub use verifying::Verifying;
+pub use def_curve::Judgement;
+pub use def_spend::{Kind, State, Verification};
+pub use def_verify::Flaw;
+pub use fields::{Fields, SignedRef, last_byte};
+pub use input::{Input, Verifying, fields_of, shared_hashes};
+pub use utxo::Amount;
+pub use verify::{ConsensusCheck, Verdict};
 
-mod gathering;
+mod asking;
+mod fields;
+mod finalize;
 mod input;
-mod scripts;
-mod signing;
-mod verifying;
+mod utxo;
+mod verify;

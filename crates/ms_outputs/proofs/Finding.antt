@@ -1,13 +1,11 @@
 -- The keys of expressions, one after another, and the steps of one.
-use Rattle.std.proofs.Common.{◌≡◌, ℕ, zero, suc, ◌+◌, ◌%◌, ◌<◌, ◌==◌, Bool, true, false, List, [], ◌∷◌, ◌++◌, length, map, drop, get_or, ap, ◌∙◌, refl, sym, subst, arith, eq-eqb, append_assoc, append-nil, Option, Some, None, Result, Ok, Err, option_and_then}
-use Rattle.std.specs.Prelude.{◌&&◌, ◌||◌, IsTrue, IsSome, IfSome}
-use Rattle.std.specs.Int.{byte_at, bytes_high_first}
-use Rattle.def_script.specs.Bytes.{Bytes, IsBytes}
-use Rattle.def_script.specs.Key.{is_key}
+use Rattle.std.proofs.Common.{◌≡◌, ℕ, ◌+◌, ◌<◌, List, [], ◌∷◌, ◌++◌, length, map, drop, get_or, ap, ◌∙◌, refl, sym, subst, append_assoc, append-nil, Option, Some, None, Result, Ok, Err, option_and_then}
+use Rattle.std.specs.Prelude.{IsSome, IfSome}
+use Rattle.def_script.specs.Bytes.{Bytes}
 use Rattle.def_tree.specs.Tree.{Key}
 use Rattle.def_tree.specs.Range.{IsKey}
 use Rattle.def_curve.specs.Point.{affine}
-use Rattle.def_curve.specs.Encoding.{coordinate, compressed}
+use Rattle.def_curve.specs.Encoding.{compressed}
 use Rattle.def_derive.specs.Child.{Node, child, descendant}
 use Rattle.def_descriptor.specs.Expression.{Expression}
 use Rattle.def_descriptor.specs.Pieces.{expressions}
@@ -22,8 +20,9 @@ use Rattle.ms_descriptor.specs.Expressions.{expression_at}
 use Rattle.ms_descriptor.specs.Miniscripts.{piece_at}
 use Rattle.ms_descriptor.specs.Bodies.{body_at}
 use Rattle.ms_outputs.specs.declared.given.GivenFault.{GivenFault}
-use Rattle.ms_outputs.specs.declared.given.GivenFault.TheVariants.{NoKey, Unread, Memory}
+use Rattle.ms_outputs.specs.declared.given.GivenFault.TheVariants.{NoKey, Memory}
 use Rattle.ms_outputs.specs.Keys.{expressions_in, expressions_of_body, TellsNoKey}
+use Rattle.ms_key_laws.proofs.Forms.{point_key}
 use Rattle.ms_outputs.proofs.Lists.{left_of}
 
 -- ---- along the steps of a key
@@ -52,51 +51,14 @@ way_end node = refl
 
 -- ---- the key of a point
 
-long_bytes : (k n : ℕ) → length (bytes_high_first k n) ≡ k
-long_bytes zero n = refl
-long_bytes (suc k) n = let rest = long_bytes k n in omega arith
-
 is_one : (r : Option Key) (bytes : Bytes) → IsSome r → IfSome r (λ key. key ≡ bytes) → r ≡ Some bytes
 is_one None bytes h k = absurd (cc)
 is_one (Some key) bytes h k = ap Some k
 
-parity_is : (y : ℕ) → (2 + y % 2 == 2 || 2 + y % 2 == 3) ≡ true
-parity_is y = go (y % 2) (omega arith)
-  where
-    go : (z : ℕ) → z < 2 → (2 + z == 2 || 2 + z == 3) ≡ true
-    go zero h = refl
-    go (suc zero) h = refl
-    go (suc (suc z)) h = absurd (omega arith)
-
-key_form : (x y : ℕ) → IsTrue (is_key (compressed (affine x y)))
-key_form x y =
-    let long : length (coordinate x) ≡ 32 = long_bytes 32 x in
-    both (length (compressed (affine x y)) == 33) _ (eq-eqb (length (compressed (affine x y))) 33 (omega arith)) (parity_is y)
-  where
-    both : (b c : Bool) → b ≡ true → c ≡ true → (b && c) ≡ true
-    both true c h k = k
-    both false c h k = h
-
-bytes_cons : (b : ℕ) (bytes : Bytes) → b < 256 → IsBytes bytes → IsBytes (b ∷ bytes)
-bytes_cons b bytes h rest zero = h
-bytes_cons b bytes h rest (suc i) = rest i
-
-byte_small : (k n : ℕ) → byte_at k n < 256
-byte_small zero n = omega arith
-byte_small (suc k) n = omega arith
-
-bytes_high : (k n : ℕ) → IsBytes (bytes_high_first k n)
-bytes_high zero n = λ i. omega arith
-bytes_high (suc k) n = bytes_cons (byte_at k n) (bytes_high_first k n) (byte_small k n) (bytes_high k n)
-
-key_bytes : (x y : ℕ) → IsBytes (compressed (affine x y))
-key_bytes x y = bytes_cons (2 + y % 2) (coordinate x) (omega arith) (bytes_high 32 x)
-
 pub key_is : (r : Option Key) (x y : ℕ) (bytes : Bytes) → bytes ≡ compressed (affine x y) → (IsKey bytes → IsSome r) → IfSome r (λ key. key ≡ bytes)
     → r ≡ Some (compressed (affine x y))
 key_is r x y bytes e some value =
-    is_one r bytes (some (record { form = subst (λ (z : Bytes). IsTrue (is_key z)) (sym e) (key_form x y); bytes = subst IsBytes (sym e) (key_bytes x y) })) value
-    ∙ ap Some e
+    is_one r bytes (some (subst IsKey (sym e) (point_key x y))) value ∙ ap Some e
 
 -- ---- one expression after another
 
@@ -190,7 +152,6 @@ module _ {branch i : ℕ} {pieces left : List Piece} {before now : List Key} (fo
 
     pub found_none : (why : GivenFault) → TellsNoKey (keys_at branch i (expressions_in (p ∷ []))) why → TellsNoKey (keys_at branch i (expressions_in pieces)) why
     found_none (NoKey at) h = there ∙ ap (behind_keys found.got) (piece_wrong branch i p rest at h)
-    found_none (Unread why) h = h
     found_none Memory h = tt
 
 -- ---- those of a body

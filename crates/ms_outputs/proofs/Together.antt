@@ -6,17 +6,18 @@ use Rattle.std.proofs.lemmas.Result.{err_from_is_err_and}
 use Rattle.def_script.specs.Bytes.{Bytes}
 use Rattle.def_machine.specs.Program.{program_of}
 use Rattle.def_tree.specs.Tree.{Key}
-use Rattle.def_text.specs.Refusal.{TextReads, TextRefusal}
+use Rattle.def_text.specs.Refusal.{TextReads}
 use Rattle.def_address.specs.declared.Network.{Network}
 use Rattle.def_descriptor.specs.Gives.{with_key, keys_at, expressions_of, text_of, network_by, asked}
 use Rattle.ms_descriptor.specs.declared.expression.Expression.{Expression}
 use Rattle.ms_descriptor.specs.declared.parts.Body.{Body}
 use Rattle.ms_descriptor.specs.declared.parts.Body.TheVariants as body
 use Rattle.ms_descriptor.specs.Bodies.{body_at}
+use Rattle.ms_key_laws.specs.Laws.{HasSomeTree}
 use Rattle.ms_outputs.specs.declared.given.GivenFault.{GivenFault}
-use Rattle.ms_outputs.specs.declared.given.GivenFault.TheVariants.{NoKey, Unread, Memory}
+use Rattle.ms_outputs.specs.declared.given.GivenFault.TheVariants.{NoKey, Memory}
 use Rattle.ms_outputs.specs.Keys.{expressions_of_body, first_version, TellsNoKey}
-use Rattle.ms_outputs.specs.Given.{HasScript, TellsRefusal, HasOne, IsProgram, IsNotGiven}
+use Rattle.ms_outputs.specs.Given.{IsReadableOf, HasScript, HasOne, IsProgram, IsNotGiven}
 use Rattle.ms_outputs.proofs.Finding.{expressions_are}
 use Rattle.ms_outputs.proofs.Versions.{network_is}
 
@@ -51,16 +52,15 @@ module _ (text : Bytes) (own : Body) (branch i : ℕ) where
 
   pub not_by_keys : (why : GivenFault) → TellsNoKey (keys_at branch i (expressions_of_body own)) why → IsNotGiven (body_at text own) branch i why
   not_by_keys (NoKey at) h = ap (keys_at branch i) (expressions_are text own) ∙ h
-  not_by_keys (Unread why) h = absurd h
   not_by_keys Memory h = tt
 
-  pub not_by_text : (keys : List Key) (written : Bytes) (why : GivenFault) → keys_at branch i (expressions_of_body own) ≡ Ok keys
-      → written ≡ text_of (body_at text own) keys → TellsRefusal written why → IsNotGiven (body_at text own) branch i why
-  not_by_text keys written (NoKey at) k e h = absurd h
-  not_by_text keys written (Unread why) k e h = (keys, keys_are keys k, subst (λ (z : Bytes). TextRefusal z why) e h)
-  not_by_text keys written Memory k e h = tt
-
 -- ---- the text, and the network
+
+-- the text with the keys at a place is read
+pub readable_is : (text written : Bytes) (own : Body) (keys : List Key) → written ≡ text_of (body_at text own) keys → HasSomeTree (body_at text own) keys → IsReadableOf own written
+readable_is text written (body.Miniscript pieces) keys e h = (h.0, h.2.0, subst (λ (z : Bytes). TextReads z h.0 h.2.0) (sym e) h.2.1)
+readable_is text written (body.Sorted at pieces) keys e h = (h.0, h.2.0, subst (λ (z : Bytes). TextReads z h.0 h.2.0) (sym e) h.2.1)
+readable_is text written (body.Single expression) keys e h = tt
 
 pub text_is : (text other : Bytes) (own : Body) (keys same : List Key) (written : Bytes) → other ≡ text → same ≡ keys
     → written ≡ text_of (body_at other own) same → written ≡ text_of (body_at text own) keys

@@ -2,7 +2,7 @@
 use Rattle.std.specs.Prelude.{◌≡◌, ⊤, ℕ, Bool, List, [], ◌∷◌, Option, Some, None, Ok, Err}
 use Rattle.def_script.specs.Bytes.{Bytes}
 use Rattle.def_tree.specs.Tree.{Key, Tree}
-use Rattle.def_text.specs.Refusal.{TextReads, TextRefusal}
+use Rattle.def_text.specs.Refusal.{TextReads}
 use Rattle.def_emit.specs.Emit.{script_of}
 use Rattle.def_address.specs.declared.Network.{Network}
 use Rattle.def_address.specs.Address.{address_of}
@@ -12,7 +12,7 @@ use Rattle.ms_descriptor.specs.declared.parts.Body.{Body as OwnBody}
 use Rattle.ms_descriptor.specs.declared.parts.Body.TheVariants as own
 use Rattle.ms_outputs.specs.declared.given.Given.{Given}
 use Rattle.ms_outputs.specs.declared.given.GivenFault.{GivenFault}
-use Rattle.ms_outputs.specs.declared.given.GivenFault.TheVariants.{NoKey, Unread, Memory}
+use Rattle.ms_outputs.specs.declared.given.GivenFault.TheVariants.{NoKey, Memory}
 
 -- the Script of the tree of a text
 pub record HasScript (text script : Bytes) : Type 0 where
@@ -21,11 +21,14 @@ pub record HasScript (text script : Bytes) : Type 0 where
   pub reads : TextReads text tree offsets
   pub is : script ≡ script_of tree
 
--- a text is refused, or want of memory is told
-abbrev pub TellsRefusal : (text : Bytes) → GivenFault → Type 0
-TellsRefusal text (NoKey at) = ⊥
-TellsRefusal text (Unread why) = TextRefusal text why
-TellsRefusal text Memory = ⊤
+-- a text has a tree
+abbrev pub IsReadable : (text : Bytes) → Type 0
+IsReadable text = (tree : Tree) × (offsets : List ℕ) × TextReads text tree offsets
+
+-- so has that of a body, if it is a miniscript
+abbrev pub IsReadableOf : OwnBody → (text : Bytes) → Type 0
+IsReadableOf (own.Single expression) text = ⊤
+IsReadableOf body text = IsReadable text
 
 -- a single key is one key
 abbrev pub HasOne : OwnBody → List Key → Type 0
@@ -50,8 +53,7 @@ pub record IsGiven (body : Body) (under : Bool) (network : Option Network) (bran
   pub output : given.output.items ≡ output_of under given.program.items
   pub address : address_at network body given.output.items ≡ Some given.address.items
 
--- why it gives nothing: an expression without a key, or the refusal of the text with its keys
+-- why it gives nothing: an expression has no key
 abbrev pub IsNotGiven : Body → (branch index : ℕ) → GivenFault → Type 0
 IsNotGiven body branch index (NoKey at) = keys_at branch index (expressions_of body) ≡ Err at
-IsNotGiven body branch index (Unread why) = (keys : List Key) × (keys_at branch index (expressions_of body) ≡ Ok keys) × TextRefusal (text_of body keys) why
 IsNotGiven body branch index Memory = ⊤

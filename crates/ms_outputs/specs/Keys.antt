@@ -12,7 +12,7 @@ use Rattle.ms_descriptor.specs.declared.parts.Body.{Body}
 use Rattle.ms_descriptor.specs.declared.parts.Body.TheVariants as body
 use Rattle.ms_descriptor.specs.Expressions.{expression_at}
 use Rattle.ms_outputs.specs.declared.given.GivenFault.{GivenFault}
-use Rattle.ms_outputs.specs.declared.given.GivenFault.TheVariants.{NoKey, Unread, Memory}
+use Rattle.ms_outputs.specs.declared.given.GivenFault.TheVariants.{NoKey, Memory}
 
 -- the key expressions among pieces, and those of a body
 abbrev pub expressions_in : List Piece → List Expression
@@ -33,7 +33,6 @@ first_version (expression ∷ rest) = option_or (version_of expression.named) (f
 -- the first expression without a key is told, or want of memory
 abbrev pub TellsNoKey : Result (List Key) ℕ → GivenFault → Type 0
 TellsNoKey r (NoKey at) = r ≡ Err at
-TellsNoKey r (Unread why) = ⊥
 TellsNoKey r Memory = ⊤
 
 -- the keys stand behind those before

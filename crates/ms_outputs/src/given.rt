@@ -1,13 +1,13 @@
 //! All that a descriptor gives at a branch and an index.
 
-ghost use Rattle.std.specs.Prelude.{◌≡◌, ◌≢◌, IsUtf8, Ok, IfOk, IfErr};
+ghost use Rattle.std.specs.Prelude.{◌≡◌, IsUtf8, Ok, IfOk, IfErr};
 ghost use Rattle.def_script.specs.Bytes.{Bytes};
 ghost use Rattle.def_address.specs.Address.{address_of as the_address_of};
 ghost use Rattle.def_descriptor.specs.Answer.{Answers};
 ghost use Rattle.def_descriptor.specs.Gives.{text_of as the_text_of};
 ghost use Rattle.ms_descriptor.specs.Bodies.{body_at, descriptor_at, BodyWithin};
 ghost use Rattle.ms_outputs.specs.declared.given.GivenFault.TheVariants as given_fault;
-ghost use Rattle.ms_outputs.specs.Given.{HasScript, TellsRefusal, HasOne, HasAddress, IsProgram, IsGiven, IsNotGiven};
+ghost use Rattle.ms_outputs.specs.Given.{IsReadable, HasScript, HasOne, IsReadableOf, HasAddress, IsProgram, IsGiven, IsNotGiven};
 
 use crate::keys::keys_at;
 use crate::outputs::{key_program, network_of, output_of, script_program};
@@ -29,8 +29,6 @@ use std::str;
 pub enum GivenFault {
     /// The expression at this place has no key there.
     NoKey(u32),
-    /// The text of its miniscript with its keys there is refused.
-    Unread(TextFault),
     /// There was no memory. It says nothing of the descriptor.
     Memory,
 }
@@ -68,30 +66,22 @@ pub struct Given {
     pub address: Vec<u8>,
 }
 
-/// Why a text has no Script, by why it is refused.
-fn unread(why: TextFault) -> GivenFault
-    ensures memory { why ≡ TextFault.Memory → result ≡ given_fault.Memory }
-    ensures other { why ≢ TextFault.Memory → result ≡ given_fault.Unread why }
-{
-    match why {
-        TextFault::Memory => GivenFault::Memory,
-        _ => GivenFault::Unread(why),
-    }
-}
-
 /// The Script of a miniscript's text.
-fn script_in(alloc: Global, text: &[u8]) -> Result<Blob, GivenFault>
-    requires { IsUtf8 text.now }
-    ensures script { IfOk result (HasScript text.now) }
-    ensures refused { IfErr result (TellsRefusal text.now) }
+fn script_in(alloc: Global, text: &[u8]) -> Result<Blob, AllocError>
+    requires utf8 { IsUtf8 text.now }
+    requires read { IsReadable text.now }
+    ensures { IfOk result (HasScript text.now) }
 {
     let Ok(words) = str::from_utf8(text) else {
         unreachable!();
     };
     let arena = Bump::new(alloc);
     match read_text(alloc, &arena, words) {
-        Ok(read) => Ok(script_bytes(alloc, read.tree())?),
-        Err(why) => Err(unread(why)),
+        Ok(read) => script_bytes(alloc, read.tree()),
+        Err(why) => match why {
+            TextFault::Memory => Err(AllocError),
+            _ => unreachable!(),
+        },
     }
 }
 
@@ -101,12 +91,12 @@ fn program_in(
     body: &Body,
     text: &[u8],
     keys: &[Key],
-) -> Result<(Option<Blob>, Vec<u8>), GivenFault>
+) -> Result<(Option<Blob>, Vec<u8>), AllocError>
     requires utf8 { IsUtf8 text.now }
+    requires read { IsReadableOf body.now text.now }
     requires one { HasOne body.now keys.now }
-    ensures program { (whole : Bytes) → text.now ≡ the_text_of (body_at whole body.now) keys.now
+    ensures { (whole : Bytes) → text.now ≡ the_text_of (body_at whole body.now) keys.now
         → IfOk result (λ read. IsProgram (body_at whole body.now) keys.now read.0 read.1.items) }
-    ensures refused { IfErr result (TellsRefusal text.now) }
 {
     if let Body::Single(_) = body {
         return Ok((None, key_program(alloc, &keys[0])?));

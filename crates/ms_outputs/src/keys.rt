@@ -19,8 +19,8 @@ use ms_point::Affine;
 use ms_tree::Key;
 use std::alloc::Global;
 
-/// The number of a step at a branch and an index.
-fn number_at(way: &Way, branch: usize, index: u32) -> u32
+/// The number of a step at a branch and an index. Takes no memory.
+pub fn number_at(way: &Way, branch: usize, index: u32) -> u32
     ensures { result ≡ the_number_at branch index (way_at way.now) }
 {
     match way {

@@ -2,6 +2,7 @@
 #![tactic(auto)]
 
 pub use given::{Given, GivenFault, give};
+pub use keys::number_at;
 
 mod given;
 mod keys;

@@ -1,4 +1,5 @@
 pub mod Marked
 pub mod Told
+pub mod Few
 pub mod FromTwo
 pub mod Promised

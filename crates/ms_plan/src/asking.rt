@@ -10,10 +10,10 @@ ghost use Rattle.ms_plan.specs.Estimates.{IsSound, table_of as the_table};
 ghost use Rattle.ms_plan.specs.Scaffolding.Marked.{AreMarked, with_marks as the_marked};
 
 use crate::estimate::Estimate;
-use crate::marks::{Marks, add_signatures, differing, push_signers};
+use crate::marks::{Marks, differing, marked_pairs, push_signers};
 use crate::planned::Plan;
 use ms_chosen::{Choice, satisfaction};
-use ms_held::Assets;
+use ms_held::{Assets, Signatures};
 use ms_plan_file::{KeyLength, Keys};
 use ms_tree::{Key, Tree};
 use ms_work::Work;
@@ -80,9 +80,10 @@ fn with_marks(
     requires { AreLengths table.now }
     ensures { IfOk result (λ made. made ≡ the_marked assets.now table.now marks) }
 {
-    let mut made = assets.without_signatures(alloc)?;
-    add_signatures(&mut made, marks, table)?;
-    Ok(made)
+    assets.are_assets();
+    let pairs = marked_pairs(alloc, marks, table)?;
+    let signatures = Signatures::of_pairs(alloc, pairs)?;
+    assets.with_signatures(alloc, signatures)
 }
 
 /// The plan by assets whose signatures have the estimated lengths, with the one marks and with the other: the strict

@@ -12,6 +12,7 @@ ghost use Rattle.ms_plan.specs.Scaffolding.Marks.{mark_of, marked, differing as 
 
 use ms_bytes::{MAX_SIGNATURE_SIZE, Stack};
 use ms_held::Assets;
+use ms_oracle::Pairs;
 use ms_plan_file::KeyLength;
 use ms_tree::{Key, Leaf, Tree, View};
 use std::alloc::{AllocError, Global};
@@ -37,31 +38,26 @@ impl Marks {
     }
 }
 
-/// Adds for each entry a signature of its length with its mark. Refuses for want of memory alone.
-pub fn add_signatures(
-    assets: &mut Assets,
-    marks: Marks,
-    table: &[KeyLength],
-) -> Result<(), AllocError>
+/// For each entry its key with a signature of its length, all of whose bytes are its mark. Refuses for want of memory alone.
+pub fn marked_pairs(alloc: Global, marks: Marks, table: &[KeyLength]) -> Result<Pairs, AllocError>
     requires { AreLengths table.now }
-    ensures { OnOk result (assets.new ≡ record assets.old { pairs = assets.old.pairs ++ marked marks 0 table.now }) }
+    ensures { IfOk result (λ pairs. pairs ≡ marked marks 0 table.now) }
 {
+    let mut pairs = Pairs::new(alloc);
     for (place, entry) in table.iter().enumerate() {
-        add_signature(assets, entry, marks.of(place as u8))?;
+        push_marked(&mut pairs, entry, marks.of(place as u8))?;
     }
-    Ok(())
+    Ok(pairs)
 }
 
-/// Adds a signature of the entry's length, all of whose bytes are this one.
-fn add_signature(assets: &mut Assets, entry: &KeyLength, mark: u8) -> Result<(), AllocError>
+/// Adds the key of an entry with a signature of its length, all of whose bytes are this one.
+fn push_marked(pairs: &mut Pairs, entry: &KeyLength, mark: u8) -> Result<(), AllocError>
     requires { entry.now.1 ≤ the_max_signature_size }
-    ensures { OnOk result (assets.new ≡ record assets.old { pairs = assets.old.pairs ++ (entry.now.0, replicate entry.now.1 mark) ∷ [] }) }
+    ensures { OnOk result (pairs.new ≡ pairs.old ++ (entry.now.0, replicate entry.now.1 mark) ∷ []) }
 {
     let signature = [mark; MAX_SIGNATURE_SIZE];
-    match assets.add_sig(&entry.key, &signature[..entry.length as usize]) {
-        Ok(()) => Ok(()),
-        Err(_) => Err(AllocError),
-    }
+    pairs.push(entry.key.as_bytes(), &signature[..entry.length as usize])?;
+    Ok(())
 }
 
 /// The items of a stack in whose places another one, of as many items, has other items.

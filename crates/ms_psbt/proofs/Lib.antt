@@ -1,4 +1,5 @@
 mod Fielding
+mod Finding
 mod Holding
 mod Leaving
 mod Locking

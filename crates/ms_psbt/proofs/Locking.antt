@@ -5,7 +5,7 @@ use Rattle.def_script.specs.Bytes.{Bytes}
 use Rattle.def_psbt.specs.declared.PsbtVersion.TheVariants as version
 use Rattle.def_psbt.specs.Listed.{Form, global_form, input_form, output_form, shape_fault}
 use Rattle.def_psbt.specs.Map.{Pair, Map, type_of, map_text, pair_of_type, value_of_type, has_types}
-use Rattle.def_psbt.specs.Fields.{has_time_alone, has_height_alone}
+use Rattle.def_psbt.specs.Fields.{has_lock, has_time_alone, has_height_alone}
 use Rattle.def_psbt.specs.Reading.{Rules, map_at, whole_map_at, place_of, unserved_at}
 use Rattle.ms_psbt.specs.declared.locks.Lock.{Lock}
 use Rattle.ms_psbt.specs.declared.locks.Lock.TheVariants as lock
@@ -137,3 +137,10 @@ unserved_here time height new_time new_height at fields rest t h both = rw (← 
 pub unserved_next : (time height new_time new_height : Bool) (at : ℕ) (fields : Map) (rest : List Map) → new_time ≡ (time || has_time_alone fields) → new_height ≡ (height || has_height_alone fields)
     → (new_time && new_height) ≡ false → unserved_at time height at (fields ∷ rest) ≡ unserved_at new_time new_height (at + length (map_text fields)) rest
 unserved_next time height new_time new_height at fields rest t h none = rw (← t, ← h, none) refl
+
+-- where no input has a time or a height there is none
+pub none_unserved : (at : ℕ) (inputs : List Map) → list_any has_lock inputs ≡ false → unserved_at false false at inputs ≡ None
+none_unserved at [] none = refl
+none_unserved at (fields ∷ rest) none =
+    let later : (place : ℕ) → list_any has_lock rest ≡ false → unserved_at false false place rest ≡ None = λ place. none_unserved place rest in
+    grind (arith, later)

@@ -7,5 +7,6 @@ pub mod Kinds
 pub mod Kept
 pub mod Pairs
 pub mod Maps
+pub mod Found
 pub mod Outlines
 pub mod Locks

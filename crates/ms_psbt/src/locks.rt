@@ -2,7 +2,7 @@
 
 ghost use Rattle.std.specs.Prelude.{◌≡◌, ◌⊎◌, ◌||◌, ◌&&◌, max, ℕ, false, List, Ok};
 ghost use Rattle.std.specs.List.{list_any};
-ghost use Rattle.def_psbt.specs.Fields.{greatest as the_greatest, lock_time_of, has_time_alone, has_height_alone};
+ghost use Rattle.def_psbt.specs.Fields.{greatest as the_greatest, lock_time_of, has_lock, has_time_alone, has_height_alone};
 ghost use Rattle.def_psbt.specs.Listed.{Form};
 ghost use Rattle.def_psbt.specs.Map.{Map};
 ghost use Rattle.def_psbt.specs.Reading.{map_at, unserved_at};
@@ -60,7 +60,7 @@ fn has_such_lock(lock: Lock, psbt: &[u8], from: usize) -> bool
 }
 
 /// Whether one of the inputs whose maps begin at these places is meant.
-fn any_lock(lock: Lock, psbt: &[u8], places: &[u32]) -> bool
+pub fn any_lock(lock: Lock, psbt: &[u8], places: &[u32]) -> bool
     ensures { (at : ℕ) (inputs : List Map) → InputsAt psbt.now at places.now inputs → result ≡ list_any (is_meant lock) inputs }
 {
     for place in places {
@@ -103,11 +103,12 @@ fn both(first: bool, second: bool) -> bool
     first && second
 }
 
-/// The lock time of the inputs whose maps begin at these places.
-pub fn lock_time(psbt: &[u8], fallback: u32, places: &[u32]) -> u32
+/// The lock time of the inputs whose maps begin at these places, of which it is told whether one has a time or a height.
+pub fn lock_time(psbt: &[u8], is_locked: bool, fallback: u32, places: &[u32]) -> u32
+    requires { (at : ℕ) (inputs : List Map) → InputsAt psbt.now at places.now inputs → is_locked ≡ list_any has_lock inputs }
     ensures { (at : ℕ) (inputs : List Map) → InputsAt psbt.now at places.now inputs → result ≡ lock_time_of fallback inputs }
 {
-    if !any_lock(Lock::Either, psbt, places) {
+    if !is_locked {
         fallback
     } else if any_lock(Lock::TimeAlone, psbt, places) {
         greatest(psbt, places, 0x11)
@@ -116,10 +117,15 @@ pub fn lock_time(psbt: &[u8], fallback: u32, places: &[u32]) -> u32
     }
 }
 
-/// The place of the first map up to which one input has a time alone and one a height alone.
-pub fn unserved(psbt: &[u8], places: &[u32]) -> Option<u32>
+/// The place of the first map up to which one input has a time alone and one a height alone. It is told whether one of them all has a time
+/// or a height.
+pub fn unserved(psbt: &[u8], is_locked: bool, places: &[u32]) -> Option<u32>
+    requires { (at : ℕ) (inputs : List Map) → InputsAt psbt.now at places.now inputs → is_locked ≡ list_any has_lock inputs }
     ensures { (at : ℕ) (inputs : List Map) → InputsAt psbt.now at places.now inputs → result ≡ unserved_at false false at inputs }
 {
+    if !is_locked {
+        return None;
+    }
     let mut time = false;
     let mut height = false;
     for place in places {

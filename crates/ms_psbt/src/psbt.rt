@@ -1,9 +1,9 @@
 //! A PSBT that was read, which lies in the bytes.
 
 ghost use Rattle.std.specs.Prelude.{◌≡◌, ℕ, ◌^◌, ◌<◌, ◌≤◌, true, List, [], ◌∷◌, ◌-◌, ◌++◌, length, map, take, drop, slice_get, slice_index, Some, option_map, Ok, IfOk, IsTrue};
-ghost use Rattle.std.specs.List.{flat_map};
+ghost use Rattle.std.specs.List.{flat_map, list_any};
 ghost use Rattle.def_psbt.specs.declared.PsbtVersion.TheVariants.{Two};
-ghost use Rattle.def_psbt.specs.Fields.{input_of, version_of, transaction_of_fields};
+ghost use Rattle.def_psbt.specs.Fields.{input_of, version_of, transaction_of_fields, has_lock};
 ghost use Rattle.def_psbt.specs.Forms.{is_unsigned};
 ghost use Rattle.def_psbt.specs.Laws.{IsSound, IsSoundMap};
 ghost use Rattle.def_psbt.specs.Listed.{global_form, input_form};
@@ -18,7 +18,7 @@ ghost use Rattle.ms_psbt.specs.Scaffolding.Maps.{Placed, InputsAt, OutputsAt};
 ghost use Rattle.ms_psbt.specs.Scaffolding.Outlines.{IsOutline};
 
 use crate::listed::MapKind;
-use crate::locks::unserved;
+use crate::locks::{Lock, any_lock, unserved};
 use crate::map::Pairs;
 use crate::maps::{map_end, maps_end};
 use crate::outline::{GLOBAL_PLACE, Outline, outline_at, version_in};
@@ -177,20 +177,22 @@ fn refusal_at(repeated: Option<u32>, lacking: Option<u32>) -> Option<Refusal>
 }
 
 /// What is wrong with the inputs of version 2 together, whose maps begin at these places: `transaction` are the bytes of the
-/// transaction.
+/// transaction, and it is told whether one of the inputs has a time or a height.
 fn unjoined(
     alloc: Global,
     psbt: &[u8],
     transaction: &[u8],
+    is_locked: bool,
     places: &[u32],
 ) -> Result<Option<Refusal>, AllocError>
+    requires locked { (at : ℕ) (inputs : List Map) → InputsAt psbt.now at places.now inputs → is_locked ≡ list_any has_lock inputs }
     requires room { length psbt.now < 2 ^ 32 }
     ensures { (at : ℕ) (inputs : List Map) (made : Transaction) → InputsAt psbt.now at places.now inputs → the_transaction_of transaction.now ≡ Some made
         → made.inputs ≡ map input_of inputs → IfOk result (λ refusal. refusal ≡ the_unjoined Two at inputs) }
 {
     let number = repeated_outpoint(alloc, transaction)?;
     let repeated = numbered(places, number);
-    let lacking = unserved(psbt, places);
+    let lacking = unserved(psbt, is_locked, places);
     Ok(refusal_at(repeated, lacking))
 }
 
@@ -207,8 +209,9 @@ fn joined_transaction(
         → the_transaction_of (transaction_text (transaction_of_fields global.0 input_maps output_maps)) ≡ Some (transaction_of_fields global.0 input_maps output_maps)
         → ReadsOr (λ out. out.items) result (unless (the_unjoined Two at input_maps) (Ok (transaction_text (transaction_of_fields global.0 input_maps output_maps)))) }
 {
-    let bytes = written_transaction(alloc, psbt, inputs, outputs)?;
-    let wrong = unjoined(alloc, psbt, bytes.as_slice(), inputs)?;
+    let is_locked = any_lock(Lock::Either, psbt, inputs);
+    let bytes = written_transaction(alloc, psbt, is_locked, inputs, outputs)?;
+    let wrong = unjoined(alloc, psbt, bytes.as_slice(), is_locked, inputs)?;
     match wrong {
         Some(refusal) => Err(ReadStop::Refused(refusal)),
         None => Ok(bytes),

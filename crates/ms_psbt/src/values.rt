@@ -1,6 +1,6 @@
 //! Values of fields, by their types, in maps that were read.
 
-ghost use Rattle.std.specs.Prelude.{◌≡◌, ◌&&◌, nat_le, ℕ, [], ◌∷◌, length, is_some, unwrap_or, Some, Ok};
+ghost use Rattle.std.specs.Prelude.{◌≡◌, ◌&&◌, nat_le, ℕ, [], ◌∷◌, length, is_some, Option, unwrap_or, Some, Ok, if◌then◌else◌};
 ghost use Rattle.std.specs.Int.{w32, w64, from_le_bytes};
 ghost use Rattle.def_script.specs.Bytes.{Bytes};
 ghost use Rattle.def_psbt.specs.Fields.{size_read, number_or as the_number_or};
@@ -9,6 +9,7 @@ ghost use Rattle.def_psbt.specs.Map.{Map, pair_of_type, value_of_type, has_types
 ghost use Rattle.def_psbt.specs.Part.{first_size as the_first_size};
 ghost use Rattle.def_psbt.specs.Reading.{map_at, place_of};
 ghost use Rattle.ms_psbt.specs.Seen.{IsPart};
+ghost use Rattle.ms_psbt.specs.Scaffolding.Found.{found_before};
 
 use crate::pairs::{pair_at, size_at};
 use crate::parts::first_size;
@@ -35,6 +36,55 @@ pub fn value_in(psbt: &[u8], from: usize, type_number: u64) -> Option<&[u8]>
             return Some(pair.value());
         }
         at = next;
+    }
+}
+
+/// The values of the first pairs of three types in the map that begins at a place and is whole, by one walk over it.
+pub fn values_in(
+    psbt: &[u8],
+    from: usize,
+    first: u64,
+    second: u64,
+    third: u64,
+) -> (Option<&[u8]>, Option<&[u8]>, Option<&[u8]>)
+    ensures first { (forms : ℕ → Form) (map : Map × ℕ) → map_at forms psbt.now from ≡ Ok map → IsPart (λ value. value.now) result.0 (value_of_type first map.0) }
+    ensures second { (forms : ℕ → Form) (map : Map × ℕ) → map_at forms psbt.now from ≡ Ok map → IsPart (λ value. value.now) result.1 (value_of_type second map.0) }
+    ensures third { (forms : ℕ → Form) (map : Map × ℕ) → map_at forms psbt.now from ≡ Ok map → IsPart (λ value. value.now) result.2 (value_of_type third map.0) }
+{
+    if from > psbt.len() {
+        return (None, None, None);
+    }
+    let mut one = None;
+    let mut two = None;
+    let mut three = None;
+    let mut at = from;
+    loop {
+        let Ok((size, _)) = size_at(psbt, at) else {
+            return (one, two, three);
+        };
+        if size == 0 {
+            return (one, two, three);
+        }
+        let Ok((pair, next)) = pair_at(psbt, at) else {
+            return (one, two, three);
+        };
+        let key_type = pair.key_type();
+        one = found_or(one, key_type == first, pair.value());
+        two = found_or(two, key_type == second, pair.value());
+        three = found_or(three, key_type == third, pair.value());
+        at = next;
+    }
+}
+
+/// The value that was found before, or this one where it is one.
+#[inline(always)]
+fn found_or<'a>(found: Option<&'a [u8]>, is_one: bool, value: &'a [u8]) -> Option<&'a [u8]>
+    ensures { (later : Option Bytes) → found_before result later ≡ found_before found.entry (if is_one then Some value.entry.now else later) }
+{
+    match found {
+        Some(before) => Some(before),
+        None if is_one => Some(value),
+        None => None,
     }
 }
 
@@ -84,16 +134,34 @@ pub fn has(psbt: &[u8], from: usize, type_number: u64) -> bool
 pub fn has_both(psbt: &[u8], from: usize, first: u64, second: u64) -> bool
     ensures { (forms : ℕ → Form) (map : Map × ℕ) → map_at forms psbt.now from ≡ Ok map → result ≡ has_types (first ∷ second ∷ []) map.0 }
 {
-    let has_first = has(psbt, from, first);
-    let has_second = has(psbt, from, second);
+    let (one, two, _) = values_in(psbt, from, first, second, second);
+    let has_first = is_there(one);
+    let has_second = is_there(two);
     has_first && has_second
+}
+
+/// Whether a value was found.
+fn is_there(value: Option<&[u8]>) -> bool
+    ensures { (reading : Option Bytes) → IsPart (λ value. value.now) value.entry reading → result ≡ is_some reading }
+{
+    match value {
+        Some(_) => true,
+        None => false,
+    }
 }
 
 /// The value of the first pair of a type in the map that begins at a place and is whole, or these bytes where there is none.
 pub fn value_or<'a>(psbt: &'a [u8], from: usize, type_number: u64, none: &'a [u8]) -> &'a [u8]
     ensures { (forms : ℕ → Form) (map : Map × ℕ) → map_at forms psbt.now from ≡ Ok map → result.now ≡ unwrap_or (value_of_type type_number map.0) none.now }
 {
-    match value_in(psbt, from, type_number) {
+    bytes_or(value_in(psbt, from, type_number), none)
+}
+
+/// The bytes of a value, or these where there is none.
+pub fn bytes_or<'a>(value: Option<&'a [u8]>, none: &'a [u8]) -> &'a [u8]
+    ensures { (reading : Option Bytes) → IsPart (λ value. value.now) value.entry reading → result.now ≡ unwrap_or reading none.now }
+{
+    match value {
         Some(value) => value,
         None => none,
     }
@@ -104,7 +172,15 @@ pub fn number_or(psbt: &[u8], from: usize, type_number: u64, none: u32) -> u32
     ensures { (forms : ℕ → Form) (map : Map × ℕ) → map_at forms psbt.now from ≡ Ok map
         → ((value : Bytes) → value_of_type type_number map.0 ≡ Some value → length value ≡ 4) → result ≡ the_number_or none (value_of_type type_number map.0) }
 {
-    match value_in(psbt, from, type_number) {
+    number_by(value_in(psbt, from, type_number), none)
+}
+
+/// The number of four bytes of a value, or this one where there is none.
+pub fn number_by(value: Option<&[u8]>, none: u32) -> u32
+    ensures { (reading : Option Bytes) → IsPart (λ value. value.now) value.entry reading → ((bytes : Bytes) → reading ≡ Some bytes → length bytes ≡ 4)
+        → result ≡ the_number_or none reading }
+{
+    match value {
         Some(value) => number_of(value),
         None => none,
     }

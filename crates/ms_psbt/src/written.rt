@@ -5,7 +5,8 @@ ghost use Rattle.std.specs.Int.{w32, w64, to_le_bytes};
 ghost use Rattle.def_script.specs.Sizes.{size_bytes};
 ghost use Rattle.def_script.specs.Witness.{sized};
 ghost use Rattle.def_psbt.specs.declared.PsbtVersion.TheVariants.{Two};
-ghost use Rattle.def_psbt.specs.Fields.{input_of, output_of, transaction_of_fields};
+ghost use Rattle.std.specs.List.{list_any};
+ghost use Rattle.def_psbt.specs.Fields.{input_of, output_of, transaction_of_fields, has_lock};
 ghost use Rattle.def_psbt.specs.Listed.{global_form, input_form, output_form};
 ghost use Rattle.def_psbt.specs.Map.{Map, has_types};
 ghost use Rattle.def_psbt.specs.Reading.{map_at, needed_input, needed_output};
@@ -14,7 +15,7 @@ ghost use Rattle.ms_psbt.specs.Scaffolding.Maps.{InputsAt, OutputsAt};
 
 use crate::locks::lock_time;
 use crate::outline::GLOBAL_PLACE;
-use crate::values::{amount_in, number_or, value_or};
+use crate::values::{amount_in, bytes_or, number_by, number_or, value_or, values_in};
 use ms_script::compact_size;
 use std::alloc::{AllocError, Global};
 
@@ -56,9 +57,10 @@ fn push_input(out: &mut Vec<u8>, psbt: &[u8], from: usize) -> Result<(), AllocEr
     ensures { (map : Map × ℕ) → map_at (input_form Two) psbt.now from ≡ Ok map → has_types (needed_input Two) map.0 ≡ true
         → OnOk result (out.new.items ≡ out.old.items ++ input_text (input_of map.0)) }
 {
-    let id = value_or(psbt, from, 0x0e, &[]);
-    let index = number_or(psbt, from, 0x0f, 0);
-    let sequence = number_or(psbt, from, 0x10, 0xffff_ffff);
+    let (id, index, sequence) = values_in(psbt, from, 0x0e, 0x0f, 0x10);
+    let id = bytes_or(id, &[]);
+    let index = number_by(index, 0);
+    let sequence = number_by(sequence, 0xffff_ffff);
     out.extend_from_slice(id)?;
     push_number(out, index)?;
     out.push(0x00)?;
@@ -100,13 +102,16 @@ fn push_outputs(out: &mut Vec<u8>, psbt: &[u8], places: &[u32]) -> Result<(), Al
     Ok(())
 }
 
-/// The bytes of the transaction of a PSBT of version 2, whose maps of inputs and of outputs begin at these places.
+/// The bytes of the transaction of a PSBT of version 2, whose maps of inputs and of outputs begin at these places. It is told whether one
+/// of the inputs has a time or a height.
 pub fn written_transaction(
     alloc: Global,
     psbt: &[u8],
+    is_locked: bool,
     inputs: &[u32],
     outputs: &[u32],
 ) -> Result<Vec<u8>, AllocError>
+    requires { (at : ℕ) (maps : List Map) → InputsAt psbt.now at inputs.now maps → is_locked ≡ list_any has_lock maps }
     ensures { (global : Map × ℕ) (at middle : ℕ) (input_maps output_maps : List Map) → map_at global_form psbt.now 5 ≡ Ok global → has_types (0x02 ∷ []) global.0 ≡ true
         → InputsAt psbt.now at inputs.now input_maps → OutputsAt psbt.now middle outputs.now output_maps
         → IfOk result (λ out. out.items ≡ transaction_text (transaction_of_fields global.0 input_maps output_maps)) }
@@ -114,7 +119,7 @@ pub fn written_transaction(
     let mut out = Vec::with_capacity(alloc, psbt.len())?;
     let version = number_or(psbt, GLOBAL_PLACE, 0x02, 0);
     let fallback = number_or(psbt, GLOBAL_PLACE, 0x03, 0);
-    let lock_time = lock_time(psbt, fallback, inputs);
+    let lock_time = lock_time(psbt, is_locked, fallback, inputs);
     push_number(&mut out, version)?;
     push_inputs(&mut out, psbt, inputs)?;
     push_outputs(&mut out, psbt, outputs)?;

@@ -5,7 +5,7 @@ use Rattle.def_psbt_answer.specs.declared.status.Status.{Status}
 use Rattle.def_psbt_answer.specs.declared.status.Status.TheVariants as status
 use Rattle.def_psbt_answer.specs.Answer.{Answer}
 use Rattle.def_psbt_answer.specs.Status.{code_of}
-use Rattle.psbt_cli.proofs.Ending.{IsAnswered, answers_have_status}
+use Rattle.ms_psbt_answer_laws.proofs.Statuses.{IsAnswered, answers_have_status}
 use Rattle.ms_psbt_answer_laws.proofs.Unique.{one_answer}
 use Rattle.ms_calls.specs.Words.{AreWords, HoldsOfAnswer}
 use Rattle.ms_calls.proofs.BufferLemmas.{holds_of_answer, other_code}

@@ -8,7 +8,7 @@ use Rattle.def_plan.specs.Plan.{Plan}
 use Rattle.def_answer.specs.Plan.{ask_line, weight_line}
 use Rattle.def_psbt_answer.specs.Lines.{no_plan_line}
 use Rattle.def_psbt_answer.specs.Report.{plan_lines}
-use Rattle.ms_asking.specs.Asked.{asked}
+use Rattle.ms_input.specs.Asked.{asked}
 
 -- the lines of a plan of which all keys are asked
 abbrev pub asked_lines : Option Plan → Bytes

@@ -21,7 +21,7 @@ use Rattle.def_answer.specs.Policy.{policy_of}
 use Rattle.def_answer.specs.Plan.{ask_line, weight_line}
 use Rattle.def_psbt_answer.specs.Lines.{policy_line, signature_line, sign_line, check_line}
 use Rattle.def_psbt_answer.specs.Report.{plan_lines, last_lines, tree_lines, word_by, told_word, signature_lines, checked_line, hash_lines}
-use Rattle.ms_asking.specs.Asked.{asked_plan}
+use Rattle.ms_input.specs.Asked.{asked_plan}
 use Rattle.ms_psbt_report.proofs.Asked.{asked_lines, lines_asked}
 
 -- the lines of a list, after the last one

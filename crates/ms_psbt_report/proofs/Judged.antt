@@ -13,7 +13,7 @@ use Rattle.def_spend.specs.Good.{word_of}
 use Rattle.def_spend.specs.Input.{Spend}
 use Rattle.def_spend.specs.States.{is_sane}
 use Rattle.def_psbt_answer.specs.Report.{word_by, told_word}
-use Rattle.ms_finalize.specs.Settled.{words_by, words_in}
+use Rattle.ms_input.specs.Settled.{words_by, words_in}
 use Rattle.ms_psbt_report.specs.Scaffolding.Words.{EachIsTold}
 
 -- the word with a number

@@ -11,3 +11,9 @@ mod LastLines
 mod KindLines
 mod InputLines
 mod Validity
+mod Digits
+mod Joined
+mod Told
+mod Writing
+mod Extracted
+mod Answering

@@ -5,3 +5,4 @@ pub mod Told
 pub mod Tables
 pub mod Words
 pub mod Lines
+pub mod Written

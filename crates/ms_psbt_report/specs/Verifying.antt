@@ -5,7 +5,7 @@ use Rattle.def_spend.specs.declared.Verification.{Verification}
 use Rattle.def_spend.specs.declared.Verification.TheVariants.{Verified, Unverified}
 use Rattle.def_spend.specs.Input.{Spend}
 use Rattle.ms_input.specs.Verified.{IsVerifying, verification_of}
-use Rattle.ms_input.specs.declared.verifying.Verifying.{Verifying}
+use Rattle.ms_input.specs.declared.input.verifying.Verifying.{Verifying}
 use Rattle.ms_sighash.specs.Shared.{Shared, shared_of}
 
 -- what all signatures of a transaction share, where they are verified

@@ -1,10 +1,10 @@
 //! The line of what an input spends.
 ghost use Rattle.std.specs.Prelude.{◌≡◌, ◌++◌, OnOk};
 ghost use Rattle.def_psbt_answer.specs.Lines.{amount_line};
-ghost use Rattle.ms_utxo.specs.Spending.{amount_seen};
+ghost use Rattle.ms_input.specs.Spending.{amount_seen};
 
+use crate::lines::{push_claimed_amount_line, push_proved_amount_line, push_unknown_amount_line};
 use ms_input::Amount;
-use ms_psbt_lines::{push_claimed_amount_line, push_proved_amount_line, push_unknown_amount_line};
 use std::alloc::AllocError;
 
 /// Adds the line of an amount.

@@ -2,6 +2,7 @@
 ghost use Rattle.std.specs.Prelude.{◌≡◌, List, drop, slice_get, IfOk};
 ghost use Rattle.def_spend.specs.Reading.{Input as TheInput, AreInputs};
 ghost use Rattle.def_psbt_answer.specs.Report.{hashes_report};
+ghost use Rattle.ms_input.specs.Verified.{HaveAssets};
 ghost use Rattle.ms_sighash.specs.Shared.{IsOutputText};
 
 use crate::inputs::push_input_hashes;
@@ -14,13 +15,14 @@ use ms_transaction::{Outputs, unsigned_transaction};
 use std::alloc::{AllocError, Global};
 
 /// What the signatures of each input of a PSBT sign (BIP 143), and how those that are there are judged, where they are verified. What all
-/// of them share is hashed once. Refuses for want of memory alone.
+/// of them share is hashed once. It demands that what its maps hold are assets. Refuses for want of memory alone.
 #[tactic(auto, unfolding(def_psbt_answer::specs::Report::hashes_report))]
 pub fn hashes<'p>(
     alloc: Global,
     verification: Verification,
     psbt: &'p Psbt<'p>,
 ) -> Result<Vec<u8>, AllocError>
+    requires { HaveAssets psbt.now }
     ensures { IfOk result (λ report. (inputs : List TheInput) → AreInputs verification psbt.entry.now inputs → report.items ≡ hashes_report inputs) }
 {
     let transaction = unsigned_transaction(psbt);

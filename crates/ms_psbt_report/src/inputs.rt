@@ -12,17 +12,16 @@ ghost use Rattle.ms_psbt_report.specs.Verifying.{IsVerifiedBy};
 ghost use Rattle.ms_psbt_report.specs.Scaffolding.Words.{AreWords};
 
 use crate::amounts::push_amount_line;
+use crate::lines::{
+    push_check_line, push_input_line, push_kind_line, push_outpoint_line, push_sign_line,
+    push_signature_line, push_unchecked_line,
+};
 use crate::states::{is_final, is_sane};
 use crate::table::HashTable;
 use crate::trees::push_tree_lines;
 use crate::words::Words;
 use def_spend::Verification;
-use ms_fields::last_byte;
-use ms_input::{Input, Kind, SignedRef, State, Verifying};
-use ms_psbt_lines::{
-    push_check_line, push_input_line, push_kind_line, push_outpoint_line, push_sign_line,
-    push_signature_line, push_unchecked_line,
-};
+use ms_input::{Input, Kind, SignedRef, State, Verifying, last_byte};
 use ms_sighash::SharedHashes;
 use std::alloc::{AllocError, Global};
 

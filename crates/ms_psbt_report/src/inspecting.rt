@@ -1,5 +1,5 @@
 //! `inspect`: what the transaction does with the money, and what each input is and lacks.
-ghost use Rattle.std.specs.Prelude.{◌≡◌, ℕ, ◌+◌, ◌*◌, ◌<◌, ◌≤◌, ◌^◌, ◌&&◌, ◌||◌, ◌++◌, [], ◌∷◌, if◌then◌else◌, List, length, take, All, IfOk, IfSome, OnOk};
+ghost use Rattle.std.specs.Prelude.{◌≡◌, ℕ, ◌+◌, ◌*◌, ◌<◌, ◌≤◌, ◌^◌, ◌&&◌, ◌||◌, ◌++◌, [], ◌∷◌, List, length, take, All, IfOk, IfSome, OnOk};
 ghost use Rattle.def_psbt.specs.Transaction.{Transaction};
 ghost use Rattle.def_spend.specs.States.{is_final, is_ready};
 ghost use Rattle.def_spend.specs.Reading.{Input as TheInput, AreInputs};
@@ -7,7 +7,7 @@ ghost use Rattle.def_psbt_answer.specs.Reply.{settled_status};
 ghost use Rattle.def_psbt_answer.specs.Report.{inspect_report};
 ghost use Rattle.ms_input.specs.Seen.{input_seen};
 ghost use Rattle.ms_transaction.specs.Unsigned.{IsUnsigned};
-ghost use Rattle.ms_input.specs.Verified.{IsVerifying, verification_of};
+ghost use Rattle.ms_input.specs.Verified.{HaveAssets, IsVerifying, verification_of};
 ghost use Rattle.ms_psbt_report.specs.Verifying.{IsVerifiedBy};
 ghost use Rattle.ms_psbt_report.specs.Scaffolding.Lines.{money_lines};
 ghost use Rattle.ms_psbt_report.specs.Scaffolding.Told.{AreTold};
@@ -15,27 +15,18 @@ ghost use Rattle.ms_psbt_report.specs.Scaffolding.Told.{AreTold};
 use crate::final_id::FinalId;
 use crate::hashing::next_output;
 use crate::inputs::push_input_report;
+use crate::lines::{push_fee_line, push_final_id_line};
+use crate::replies::Reply;
 use crate::shared::{shared_for, verifying_by};
 use crate::spent::Spent;
-use crate::states::is_settled;
+use crate::states::{is_settled, status_of};
 use crate::transactions::{push_outputs, push_transaction};
 use bumpalo::Bump;
-use def_psbt_answer::Status;
 use def_spend::Verification;
 use ms_input::{Input, State, Verifying};
 use ms_psbt::Psbt;
-use ms_psbt_lines::{push_fee_line, push_final_id_line};
 use ms_transaction::{TransactionRef, unsigned_transaction};
 use std::alloc::{AllocError, Global};
-
-/// What `inspect` answers.
-#[derive(Debug, Drop)]
-pub struct Inspection {
-    /// Whether all inputs are Final or Ready.
-    pub status: Status,
-    /// What it prints.
-    pub report: Vec<u8>,
-}
 
 /// What the inputs tell, those that were read.
 #[derive(Drop)]
@@ -51,13 +42,15 @@ pub struct Told {
 }
 
 /// What the transaction of a PSBT does with the money, and of each input what it is, what it demands, and what is missing, where its
-/// signatures are verified or aren't. Each input is read once. Refuses for want of memory alone.
+/// signatures are verified or aren't. Each input is read once. It demands that what its maps hold are assets. Refuses for want of memory
+/// alone.
 #[tactic(auto, unfolding(def_psbt_answer::specs::Report::inspect_report))]
 pub fn inspect<'p>(
     alloc: Global,
     verification: Verification,
     psbt: &'p Psbt<'p>,
-) -> Result<Inspection, AllocError>
+) -> Result<Reply, AllocError>
+    requires { HaveAssets psbt.now }
     ensures status { IfOk result (λ made. (inputs : List TheInput) → AreInputs verification psbt.entry.now inputs → made.status ≡ settled_status inputs) }
     ensures report { IfOk result (λ made. (inputs : List TheInput) → AreInputs verification psbt.entry.now inputs → made.report.items ≡ inspect_report psbt.entry.now.transaction inputs) }
 {
@@ -65,7 +58,7 @@ pub fn inspect<'p>(
     let _count = psbt.input_count();
     let transaction = unsigned_transaction(psbt);
     let told = tell_inputs(alloc, verification, psbt, &transaction)?;
-    Ok(Inspection {
+    Ok(Reply {
         status: status_of(told.are_settled),
         report: with_money(
             told.lines,
@@ -96,17 +89,6 @@ fn with_money(
     Ok(report)
 }
 
-/// The status of a reply to inputs.
-fn status_of(are_settled: bool) -> Status
-    ensures { result ≡ (if are_settled then Status.Done else Status.Open) }
-{
-    if are_settled {
-        Status::Done
-    } else {
-        Status::Open
-    }
-}
-
 /// What all inputs tell.
 fn tell_inputs<'p>(
     alloc: Global,
@@ -116,6 +98,7 @@ fn tell_inputs<'p>(
 ) -> Result<Told, AllocError>
     requires transaction { transaction.now ≡ psbt.now.transaction }
     requires unsigned { All IsUnsigned transaction.now.inputs }
+    requires assets { HaveAssets psbt.now }
     ensures { IfOk result (λ told. (inputs : List TheInput) → AreInputs verification psbt.entry.now inputs → AreTold transaction.now inputs told) }
 {
     let mut told = Told {
@@ -148,6 +131,7 @@ fn tell_input<'p>(
     requires transaction { transaction.now ≡ psbt.now.transaction }
     requires unsigned { All IsUnsigned transaction.now.inputs }
     requires number { number < length psbt.now.inputs }
+    requires assets { HaveAssets psbt.now }
     requires verifying { IsVerifying verifying transaction.now number }
     requires most { IfSome told.old.spent.satoshis (λ satoshis. satoshis ≤ number * 0xffff_ffff_ffff_ffff) }
     ensures told { (inputs : List TheInput) → AreInputs (verification_of verifying.entry) psbt.entry.now inputs → AreTold transaction.now (take number inputs) told.old

@@ -1,19 +1,17 @@
-//! Reports of PSBTs: what `inspect`, `hashes` and `verify` print of the transaction and of each input, and how they end.
+//! What `msat-psbt` replies to what is asked and the bytes of its source, and its reports: what `inspect`, `hashes` and `verify` print of
+//! the transaction and of each input, line by line, and how they end.
 #![tactic(auto)]
 
-pub use hashing::{hashes, next_output};
-pub use inspecting::{Inspection, inspect};
-pub use open::first_open;
-pub use shared::{shared_for, verifying_by};
-pub use states::is_settled;
-pub use verifying::{Verdicts, verify};
+pub use replies::{Reply, request_reply};
 
 mod amounts;
 mod final_id;
 mod hashing;
 mod inputs;
 mod inspecting;
+mod lines;
 mod open;
+mod replies;
 mod shared;
 mod spent;
 mod states;

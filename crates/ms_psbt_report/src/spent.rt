@@ -1,7 +1,7 @@
 //! What inputs spend together.
 ghost use Rattle.std.specs.Prelude.{◌≡◌, ℕ, ◌+◌, ◌≤◌, ◌^◌, ◌&&◌, IfSome, option_map};
 ghost use Rattle.def_psbt_answer.specs.Fee.{is_proved};
-ghost use Rattle.ms_utxo.specs.Spending.{amount_seen};
+ghost use Rattle.ms_input.specs.Spending.{amount_seen};
 ghost use Rattle.ms_psbt_report.specs.Scaffolding.Sums.{with_amount};
 
 use ms_input::Amount;

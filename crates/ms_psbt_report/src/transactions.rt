@@ -3,7 +3,7 @@ ghost use Rattle.std.specs.Prelude.{◌≡◌, ◌++◌, IfOk, OnOk};
 ghost use Rattle.def_psbt_answer.specs.Fee.{paid as the_paid};
 ghost use Rattle.def_psbt_answer.specs.Lines.{psbt_line, output_lines};
 
-use ms_psbt_lines::{Summary, push_output_line, push_psbt_line};
+use crate::lines::{Summary, push_output_line, push_psbt_line};
 use ms_transaction::TransactionRef;
 use std::alloc::AllocError;
 

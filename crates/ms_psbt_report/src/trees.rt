@@ -11,12 +11,12 @@ ghost use Rattle.ms_input.specs.Seen.{input_seen};
 ghost use Rattle.ms_psbt_report.specs.Scaffolding.Lines.{lines_of_tree, told_tree, last_lines_of, lines_of_plan};
 ghost use Rattle.ms_tree.specs.Shape.{shape};
 
-use crate::states::{is_read, is_sane};
-use ms_input::{Input, State};
-use ms_psbt_lines::{
+use crate::lines::{
     push_ask_line, push_most_weight_line, push_no_plan_line, push_policy_line, push_tree_line,
     push_weight_line,
 };
+use crate::states::{is_read, is_sane};
+use ms_input::{Input, State};
 use ms_tree::{Key, Tree};
 use std::alloc::{AllocError, Global};
 

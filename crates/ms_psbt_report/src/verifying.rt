@@ -1,5 +1,5 @@
 //! `verify`: whether the final fields of each input are valid.
-ghost use Rattle.std.specs.Prelude.{◌≡◌, ◌&&◌, ◌++◌, if◌then◌else◌, List, flat_map, length, slice_get, IfOk, OnOk};
+ghost use Rattle.std.specs.Prelude.{◌≡◌, ◌&&◌, ◌++◌, List, flat_map, length, slice_get, IfOk, OnOk};
 ghost use Rattle.def_psbt_answer.specs.Reply.{verify_status};
 ghost use Rattle.def_psbt_answer.specs.Verified.{input_verdict, passed_line, verdict_lines, verify_report};
 ghost use Rattle.def_spend.specs.declared.Verification.TheVariants.{Verified};
@@ -8,35 +8,28 @@ ghost use Rattle.def_spend.specs.Reading.{Input as TheInput, AreInputs};
 ghost use Rattle.def_verify.specs.Verdict.{final_verdict as the_final_verdict, is_valid as the_is_valid, verdict_of};
 ghost use Rattle.ms_input.specs.Seen.{input_seen};
 ghost use Rattle.ms_sighash.specs.Shared.{shared_of, IsOutputText};
-ghost use Rattle.ms_verify.specs.Signing.{IsAsked};
+ghost use Rattle.ms_input.specs.Signing.{IsAsked};
+ghost use Rattle.ms_input.specs.Verified.{HaveAssets};
 
 use crate::hashing::next_output;
+use crate::lines::{push_flaw_line, push_open_line, push_signature_line, push_valid_line};
+use crate::replies::Reply;
 use crate::shared::verifying_with;
-use crate::states::is_final;
+use crate::states::{is_final, status_of};
 use bumpalo::Bump;
-use def_psbt_answer::Status;
 use def_spend::Verification;
 use ms_input::{ConsensusCheck, Input, Verdict, shared_hashes};
 use ms_oracle::SigPair;
 use ms_psbt::Psbt;
-use ms_psbt_lines::{push_flaw_line, push_open_line, push_signature_line, push_valid_line};
 use ms_sighash::SharedHashes;
 use ms_transaction::unsigned_transaction;
 use std::alloc::{AllocError, Global};
 
-/// What `verify` answers.
-#[derive(Debug, Drop)]
-pub struct Verdicts {
-    /// Done where each input is valid, else Open.
-    pub status: Status,
-    /// The lines of all inputs.
-    pub report: Vec<u8>,
-}
-
-/// Whether the final fields of each input of a PSBT are valid. What all signatures share is hashed once. Refuses for want of memory
-/// alone.
+/// Whether the final fields of each input of a PSBT are valid. What all signatures share is hashed once. It demands that what its maps hold
+/// are assets. Refuses for want of memory alone.
 #[tactic(auto, unfolding(def_psbt_answer::specs::Verified::verify_report))]
-pub fn verify<'p>(alloc: Global, psbt: &'p Psbt<'p>) -> Result<Verdicts, AllocError>
+pub fn verify<'p>(alloc: Global, psbt: &'p Psbt<'p>) -> Result<Reply, AllocError>
+    requires { HaveAssets psbt.now }
     ensures report { IfOk result (λ made. (inputs : List TheInput) → AreInputs Verified psbt.entry.now inputs → made.report.items ≡ verify_report inputs) }
     ensures status { IfOk result (λ made. (inputs : List TheInput) → AreInputs Verified psbt.entry.now inputs → made.status ≡ verify_status inputs) }
 {
@@ -53,7 +46,7 @@ pub fn verify<'p>(alloc: Global, psbt: &'p Psbt<'p>) -> Result<Verdicts, AllocEr
         let is_valid = push_input_verdict(alloc, &mut report, &input, &shared, output)?;
         are_valid = stay_valid(are_valid, is_valid);
     }
-    Ok(Verdicts {
+    Ok(Reply {
         status: status_of(are_valid),
         report,
     })
@@ -64,17 +57,6 @@ fn stay_valid(are_valid: bool, is_valid: bool) -> bool
     ensures { result ≡ (are_valid && is_valid) }
 {
     are_valid && is_valid
-}
-
-/// The status of a reply to inputs.
-fn status_of(are_valid: bool) -> Status
-    ensures { result ≡ (if are_valid then Status.Done else Status.Open) }
-{
-    if are_valid {
-        Status::Done
-    } else {
-        Status::Open
-    }
 }
 
 /// Adds what `verify` prints of an input, by what all signatures of the transaction share, and the bytes of its output with the

@@ -9,8 +9,7 @@ ghost use Rattle.ms_psbt_report.specs.Scaffolding.Tables.{IsTable};
 ghost use Rattle.ms_psbt_report.specs.Scaffolding.Words.{AreWords, bytes_in};
 
 use crate::table::HashTable;
-use ms_fields::last_byte;
-use ms_input::{Judgement, SignedRef};
+use ms_input::{Judgement, SignedRef, last_byte};
 use ms_judge::judge::judge;
 
 /// How the signatures of an input are judged.

@@ -11,7 +11,7 @@ pub use policies::policy_report;
 pub use runs::{accepted_line, accepted_report, not_accepted_line, refused_report};
 pub use satisfactions::satisfaction_report;
 pub use texts::{text_line, unfit_line};
-pub use trees::{check_report, decode_report, script_report};
+pub use trees::{check_report, decode_report, script_report, type_letters};
 
 mod answer;
 mod audits;

@@ -1,11 +1,10 @@
 //! Names as reports print them.
 ghost use Rattle.std.specs.Prelude.{◌≡◌};
 ghost use Rattle.def_answer.specs.Lines.{rule_name as the_rule_name};
-ghost use Rattle.def_answer.specs.Check.{base_letter as the_base_letter};
 ghost use Rattle.def_answer.specs.Run.{script_fault_name as the_script_fault_name};
 
 use ms_interp::ScriptFault;
-use ms_types::{Base, Rule};
+use ms_types::Rule;
 
 /// The variants of an enum, each by its name.
 macro_rules! names {
@@ -36,16 +35,4 @@ pub fn script_fault_name(fault: ScriptFault) -> &'static str
         MinimalIf Verify NumberForm NegativeLock UnmetLock KeyForm NullFail NullDummy KeyCount SigCount StackSize
         CleanStack EvalFalse
     })
-}
-
-/// The letter of a base type (BIP 379). Takes no memory.
-pub fn base_letter(base: Base) -> &'static str
-    ensures { result.now ≡ the_base_letter base }
-{
-    match base {
-        Base::B => "B",
-        Base::V => "V",
-        Base::K => "K",
-        Base::W => "W",
-    }
 }

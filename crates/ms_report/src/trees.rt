@@ -1,16 +1,16 @@
 //! What is printed of a tree that passed.
-ghost use Rattle.std.specs.Prelude.{◌≡◌, ◌++◌, IfOk, OnOk};
+ghost use Rattle.std.specs.Prelude.{◌≡◌, IfOk};
 ghost use Rattle.std.specs.String.{string_bytes};
 ghost use Rattle.def_tree.specs.InRange.{IsInRange};
 ghost use Rattle.ms_tree.specs.Shape.{shape};
 ghost use Rattle.def_answer.specs.Script.{script_report as the_script_report};
-ghost use Rattle.def_answer.specs.Check.{check_report as the_check_report, type_letters as the_type_letters, letter};
+ghost use Rattle.def_answer.specs.Check.{check_report as the_check_report, type_letters as the_type_letters};
 ghost use Rattle.def_answer.specs.Decode.{decode_report as the_decode_report};
 
 use crate::limits::{bounds_line, bounds_of};
 use crate::lines::{push_line, push_output};
-use crate::names::base_letter;
 use ms_emit::script_bytes;
+use ms_outline::push_letters;
 use ms_print::print_text;
 use ms_program::program_of;
 use ms_sane::SaneTree;
@@ -64,32 +64,16 @@ pub fn decode_report(alloc: Global, tree: &Tree<'_>) -> Result<String, AllocErro
     Ok(report)
 }
 
-/// The base type's letter, and those of the properties that hold.
-fn type_letters(
+/// The base type's letter, and those of the properties that hold, as `check` prints them. `AllocError` comes only where memory is
+/// wanting.
+pub fn type_letters(
     alloc: Global,
     ty: CorrectnessType,
     malleability_of: MalleabilityProperties,
 ) -> Result<String, AllocError>
     ensures { IfOk result (λ letters. string_bytes letters ≡ the_type_letters ty malleability_of) }
 {
-    let mut letters = String::from_str(alloc, base_letter(ty.base))?;
-    push_letter(&mut letters, ty.z, "z")?;
-    push_letter(&mut letters, ty.o, "o")?;
-    push_letter(&mut letters, ty.n, "n")?;
-    push_letter(&mut letters, ty.d, "d")?;
-    push_letter(&mut letters, ty.u, "u")?;
-    push_letter(&mut letters, malleability_of.s, "s")?;
-    push_letter(&mut letters, malleability_of.f, "f")?;
-    push_letter(&mut letters, malleability_of.e, "e")?;
+    let mut letters = String::new(alloc);
+    push_letters(&mut letters, ty, malleability_of)?;
     Ok(letters)
-}
-
-/// Adds the letter of a property that holds.
-fn push_letter(letters: &mut String, holds: bool, name: &str) -> Result<(), AllocError>
-    ensures { OnOk result (string_bytes letters.new ≡ string_bytes letters.old ++ letter holds name.now) }
-{
-    if holds {
-        letters.push_str(name)?;
-    }
-    Ok(())
 }

@@ -21,7 +21,7 @@ use Rattle.def_satisfaction.specs.Satisfaction.{Sat, Holds}
 use Rattle.def_choice.specs.NonMalleable.{NonMalleable, given_with}
 use Rattle.def_choice.specs.Strict.{strict}
 use Rattle.def_choice.proofs.Chosen.{strict_is_canonical, strict_is_tight}
-use Rattle.def_promises.specs.Accepted.{IsAcceptedWithin, HasNothingToAccept}
+use Rattle.def_promises.specs.Accepted.{IsAcceptedWithin, Unchangeable, HasNothingToAccept}
 use Rattle.ms_acceptance_laws.proofs.Accepted.{canonical_is_accepted}
 use Rattle.ms_row_laws.proofs.WithinLimits.{within_limits, valid_limits}
 use Rattle.ms_strict_laws.proofs.TightIsUnchangeable.{strict_is_unchangeable, nothing_to_accept}
@@ -169,9 +169,12 @@ ready_is_accepted law = of_each_ready law IsAcceptedByAll (λ input tree script 
 
 -- ---- nobody can change it
 
+pub unchangeable : (input : Input) (tree : Tree) (script : Bytes) → IsChosen input tree script → Unchangeable tree (assets_of input.spend) (stack_of input)
+unchangeable input tree script c =
+    strict_is_unchangeable tree (assets_of input.spend) (stack_of input) (writes input tree script c.tried) (sane_for_all input tree script c.tried) (held input c.given) c.chosen
+
 pub ready_is_unchangeable : EachIsSound → ReadyIsUnchangeable
-ready_is_unchangeable law = of_each_ready law _ (λ input tree script c.
-    strict_is_unchangeable tree (assets_of input.spend) (stack_of input) (writes input tree script c.tried) (sane_for_all input tree script c.tried) (held input c.given) c.chosen)
+ready_is_unchangeable law = of_each_ready law _ unchangeable
 
 pub ready_is_tight : EachIsSound → ReadyIsTight
 ready_is_tight law = of_each_ready law _ (λ input tree script c.

@@ -58,7 +58,7 @@ use Rattle.ms_spend_laws.proofs.Inputs.{IsGiven, held, of_each}
 use Rattle.ms_spend_laws.proofs.Counted.{counted_is, counted_among}
 use Rattle.ms_spend_laws.proofs.KeyHash.{member_in}
 use Rattle.ms_spend_laws.proofs.Planning.{reversed_some}
-use Rattle.ms_spend_laws.proofs.Chosen.{of_each_ready, within, replays}
+use Rattle.ms_spend_laws.proofs.Chosen.{of_each_ready, within, replays, unchangeable}
 
 -- ---- consensus
 
@@ -152,6 +152,7 @@ ready_is_accepted_by_consensus law hashes =
     record {
       replayed = λ ends. replays input tree script c ends checker holds;
       within = λ limits are. within input tree script c limits checker are holds;
+      unchangeable = unchangeable input tree script c checker holds;
     })
 
 -- ---- the state by the assets

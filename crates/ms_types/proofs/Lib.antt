@@ -1,5 +1,7 @@
 pub mod Seen
 mod OneMore
+pub mod Telling
+mod Wrongs
 mod OfRows
 mod Places
 mod Signing

@@ -21,7 +21,7 @@ unless_broken_is {A} node (n ∷ needs) value = go n.holds (unless_broken_is nod
     go true rest = rest
     go false rest = refl
 
-answer_is : {A : Type 0} (node : ℕ) (row : Row A) → at_node node (checked row) ≡ answer node row
+pub answer_is : {A : Type 0} (node : ℕ) (row : Row A) → at_node node (checked row) ≡ answer node row
 answer_is node row = unless_broken_is node row.needs row.gives
 
 module _ {A : Type 0} (rows : Rows A) where

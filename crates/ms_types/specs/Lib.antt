@@ -1,3 +1,5 @@
 pub mod Rows
 pub mod Checked
+pub mod Told
+pub mod Replaced
 pub mod Scaffolding

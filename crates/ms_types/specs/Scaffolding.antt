@@ -3,3 +3,4 @@ pub mod Properties
 pub mod Children
 pub mod Seen
 pub mod Signed
+pub mod Told

@@ -1,7 +1,7 @@
 -- What the words ask for.
 use Rattle.std.specs.Prelude.{⊤, List, IsUtf8, Option, MatchOption}
 use Rattle.def_script.specs.Bytes.{Bytes}
-use Rattle.def_answer.specs.Words.{Command, script, asm, check, satisfy, run, gen, policy, plan, audit, trace, trace_text, decode, IsForm, HasNoForm}
+use Rattle.def_answer.specs.Words.{Command, script, asm, outline, check, satisfy, run, gen, policy, plan, audit, trace, trace_text, decode, IsForm, HasNoForm}
 use Rattle.ms_words.specs.declared.words.TextCommand.{TextCommand}
 use Rattle.ms_words.specs.declared.words.TextCommand.TheVariants as kind
 use Rattle.ms_words.specs.declared.words.Command.{Command as Asked}
@@ -11,6 +11,7 @@ use Rattle.ms_words.specs.declared.words.Command.TheVariants as asked
 abbrev pub command_of : TextCommand → (text : Bytes) → Command
 command_of (kind.Script rules) = script rules
 command_of (kind.Asm rules) = asm rules
+command_of (kind.Tree rules) = outline rules
 command_of (kind.Check rules) = check rules
 command_of (kind.Satisfy choice rules) = satisfy choice rules
 command_of kind.Policy = policy
@@ -29,6 +30,7 @@ seen (asked.Decode digits keys) = decode digits.now keys.now
 abbrev pub HasUtf8 : Command → Type 0
 HasUtf8 (script rules text) = IsUtf8 text
 HasUtf8 (asm rules text) = IsUtf8 text
+HasUtf8 (outline rules text) = IsUtf8 text
 HasUtf8 (check rules text) = IsUtf8 text
 HasUtf8 (satisfy choice rules text) = IsUtf8 text
 HasUtf8 run = ⊤

@@ -21,6 +21,8 @@ pub enum TextCommand {
     Script(Rules),
     /// `asm`: the instructions of its Script, with the node that wrote each.
     Asm(Rules),
+    /// `tree`: the nodes of its tree, each with its type, whether or not it is sane.
+    Tree(Rules),
     /// `check`: what is known of it.
     Check(Rules),
     /// `satisfy`: the satisfaction by the assets of a file that is chosen so.
@@ -101,6 +103,9 @@ fn two_words<'a>(name: &str, word: &'a str) -> Option<Command<'a>>
     if name == "asm" {
         return Some(Command::Text(TextCommand::Asm(Rules::Policy), word));
     }
+    if name == "tree" {
+        return Some(Command::Text(TextCommand::Tree(Rules::Policy), word));
+    }
     if name == "check" {
         return Some(Command::Text(TextCommand::Check(Rules::Policy), word));
     }
@@ -174,6 +179,9 @@ fn consensus_words<'a>(name: &str, text: &'a str) -> Option<Command<'a>>
     }
     if name == "asm" {
         return Some(Command::Text(TextCommand::Asm(rules), text));
+    }
+    if name == "tree" {
+        return Some(Command::Text(TextCommand::Tree(rules), text));
     }
     if name == "check" {
         return Some(Command::Text(TextCommand::Check(rules), text));

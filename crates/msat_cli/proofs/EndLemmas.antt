@@ -15,7 +15,7 @@ use Rattle.ms_answer_laws.specs.Laws.{IsAnswered}
 use Rattle.def_answer.specs.Reply.{Reply, reply}
 use Rattle.def_answer.specs.Lines.{MOST_FILE}
 use Rattle.def_answer.specs.Sources.{NeedsSource, ReadsSource, IsOfSource}
-use Rattle.def_answer.specs.Words.{Command, script, asm, check, satisfy, run, gen, policy, plan, audit, trace, trace_text, decode, HasNoForm}
+use Rattle.def_answer.specs.Words.{Command, script, asm, outline, check, satisfy, run, gen, policy, plan, audit, trace, trace_text, decode, HasNoForm}
 use Rattle.ms_answer_laws.proofs.Answered.{OnText}
 use Rattle.ms_answer_laws.proofs.Early.{answers_have_status}
 use Rattle.ms_answer_laws.proofs.Sources.{answer_without_source, status_without_source, long_file}
@@ -100,6 +100,7 @@ tells_nothing call (inr (inr (inr m))) never = subst (λ s. ¬ IsOfSource s) (sy
 on_text : (command : Command) → HasUtf8 command → OnText IsUtf8 command
 on_text (script rules text) utf8 = utf8
 on_text (asm rules text) utf8 = utf8
+on_text (outline rules text) utf8 = utf8
 on_text (check rules text) utf8 = utf8
 on_text (satisfy choice rules text) utf8 = utf8
 on_text run utf8 = tt

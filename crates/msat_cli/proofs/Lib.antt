@@ -7,6 +7,7 @@ mod PlanLemmas
 mod AuditLemmas
 mod TraceLemmas
 mod ListingLemmas
+mod OutlineLemmas
 mod PolicyLemmas
 mod DecodingLemmas
 mod PolicyTells

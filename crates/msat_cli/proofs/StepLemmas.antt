@@ -49,6 +49,7 @@ replies_read : (kind : TextCommand) (text bytes : Bytes) (tree : Tree) (offsets 
     → r ≡ unless_unfit (reason_of kind tree) offsets (reply_of kind bytes offsets tree) → Replies (command_of kind text) bytes r
 replies_read (kind.Script rules) text bytes tree offsets r reads e = (read tree offsets, reads, e)
 replies_read (kind.Asm rules) text bytes tree offsets r reads e = (read tree offsets, reads, e)
+replies_read (kind.Tree rules) text bytes tree offsets r reads e = (read tree offsets, reads, e)
 replies_read (kind.Check rules) text bytes tree offsets r reads e = (read tree offsets, reads, e)
 replies_read (kind.Satisfy choice rules) text bytes tree offsets r reads e = (read tree offsets, reads, e)
 replies_read kind.Policy text bytes tree offsets r reads e = (read tree offsets, reads, e)
@@ -61,6 +62,7 @@ replies_read kind.Trace text bytes tree offsets r reads e = (read tree offsets, 
 no_reason : (kind : TextCommand) (tree : Tree) → ReadsFor kind tree → reason_of kind tree ≡ None
 no_reason (kind.Script rules) tree h = absurd h
 no_reason (kind.Asm rules) tree h = absurd h
+no_reason (kind.Tree rules) tree h = absurd h
 no_reason (kind.Check rules) tree h = absurd h
 no_reason (kind.Satisfy choice rules) tree h = h
 no_reason kind.Policy tree h = absurd h
@@ -72,6 +74,7 @@ pub for_source : (kind : TextCommand) (text : Bytes) (tree : Tree) (offsets : Li
     → NeedsSource (command_of kind text)
 for_source (kind.Script rules) text tree offsets reads h = absurd h
 for_source (kind.Asm rules) text tree offsets reads h = absurd h
+for_source (kind.Tree rules) text tree offsets reads h = absurd h
 for_source (kind.Check rules) text tree offsets reads h = absurd h
 for_source (kind.Satisfy choice rules) text tree offsets reads h = (tree, offsets, reads, h)
 for_source kind.Policy text tree offsets reads h = absurd h
@@ -88,6 +91,7 @@ pub source_for : (kind : TextCommand) (text : Bytes) (tree : Tree) (offsets : Li
     → NeedsSource (command_of kind text) → ReadsFor kind tree
 source_for (kind.Script rules) text tree offsets reads h = absurd h
 source_for (kind.Asm rules) text tree offsets reads h = absurd h
+source_for (kind.Tree rules) text tree offsets reads h = absurd h
 source_for (kind.Check rules) text tree offsets reads h = absurd h
 source_for (kind.Satisfy choice rules) text tree offsets reads h = same_reason (reason_by choice rules) text tree offsets reads h
 source_for kind.Policy text tree offsets reads h = absurd h
@@ -115,6 +119,7 @@ tree_answers kind text tree offsets source reads r (inr late) =
 short_text : (kind : TextCommand) (text : Bytes) → length text ≤ MOST_BYTES → HasShortText (command_of kind text)
 short_text (kind.Script rules) text short = short
 short_text (kind.Asm rules) text short = short
+short_text (kind.Tree rules) text short = short
 short_text (kind.Check rules) text short = short
 short_text (kind.Satisfy choice rules) text short = short
 short_text kind.Policy text short = short
@@ -136,6 +141,7 @@ pub no_source : (kind : TextCommand) (text : Bytes) (fault : TextFault) → IsUt
     → ¬ NeedsSource (command_of kind text)
 no_source (kind.Script rules) text fault utf8 refusal h = h
 no_source (kind.Asm rules) text fault utf8 refusal h = h
+no_source (kind.Tree rules) text fault utf8 refusal h = h
 no_source (kind.Check rules) text fault utf8 refusal h = h
 no_source (kind.Satisfy choice rules) text fault utf8 refusal h = absurd (none_beside_tree text h.0 h.1 fault utf8 h.2 refusal)
 no_source kind.Policy text fault utf8 refusal h = h
@@ -147,6 +153,7 @@ replies_refused : (kind : TextCommand) (text bytes : Bytes) (fault : TextFault) 
     → Replies (command_of kind text) bytes r
 replies_refused (kind.Script rules) text bytes fault r refusal is = (refused fault, refusal, is.1)
 replies_refused (kind.Asm rules) text bytes fault r refusal is = (refused fault, refusal, is.1)
+replies_refused (kind.Tree rules) text bytes fault r refusal is = (refused fault, refusal, is.1)
 replies_refused (kind.Check rules) text bytes fault r refusal is = (refused fault, refusal, is.1)
 replies_refused (kind.Satisfy choice rules) text bytes fault r refusal is = (refused fault, refusal, is.1)
 replies_refused kind.Policy text bytes fault r refusal is = (refused fault, refusal, is.1)

@@ -11,7 +11,7 @@ use Rattle.def_answer.specs.declared.status.Status.TheVariants as status
 use Rattle.def_answer.specs.Answer.{Answer}
 use Rattle.def_answer.specs.Lines.{MOST_FILE}
 use Rattle.def_answer.specs.Sources.{ReadsSource}
-use Rattle.def_answer.specs.Words.{Command, script, asm, check, satisfy, run, gen, policy, plan, audit, trace, trace_text, decode, IsForm, HasNoForm}
+use Rattle.def_answer.specs.Words.{Command, script, asm, outline, check, satisfy, run, gen, policy, plan, audit, trace, trace_text, decode, IsForm, HasNoForm}
 
 -- ---- how it ends
 
@@ -23,6 +23,7 @@ HasAnswer = HasAnswerOf Answer
 abbrev pub HasShortText : Command → Type 0
 HasShortText (script rules text) = length text ≤ MOST_BYTES
 HasShortText (asm rules text) = length text ≤ MOST_BYTES
+HasShortText (outline rules text) = length text ≤ MOST_BYTES
 HasShortText (check rules text) = length text ≤ MOST_BYTES
 HasShortText (satisfy choice rules text) = length text ≤ MOST_BYTES
 HasShortText run = ⊤

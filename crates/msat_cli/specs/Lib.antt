@@ -5,6 +5,7 @@ pub mod Plans
 pub mod Audits
 pub mod Traces
 pub mod Listings
+pub mod Outlines
 pub mod Policies
 pub mod Decodings
 pub mod Promises

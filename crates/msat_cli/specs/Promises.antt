@@ -9,6 +9,7 @@ use Rattle.msat_cli.specs.Ends.{Ends, EndsAsUsage, EndsAsAnswered, IsReadFor}
 use Rattle.msat_cli.specs.Audits.{ShowsAudit}
 use Rattle.msat_cli.specs.Decodings.{ShowsReading}
 use Rattle.msat_cli.specs.Listings.{ShowsListing}
+use Rattle.msat_cli.specs.Outlines.{ShowsTree}
 use Rattle.msat_cli.specs.Plans.{ShowsPlan}
 use Rattle.msat_cli.specs.Policies.{ShowsPolicy}
 use Rattle.msat_cli.specs.Satisfactions.{FindsWhereOneExists, ShowsCanonical, ShowsWitness, ShowsAccepted, ShowsNonMalleable}
@@ -50,6 +51,9 @@ pub record IsCallOfMsat (call : Call) : Type 0 where
   -- for every valid text `asm TEXT` writes the instructions of its Script, each with its offset and the place of the node
   -- that wrote it
   pub listing : ShowsListing call
+  -- for every text that can be read `tree TEXT` writes its nodes, each with the type of what stands below it alone; and, where
+  -- it isn't sane, the first reason against it, and which letter lets the node pass that breaks a rule
+  pub outline : ShowsTree call
   -- for every sane text `policy TEXT` writes its policy, and the least number of keys that make the policy true
   pub policy : ShowsPolicy call
   -- for every sane text and readable plan file `plan TEXT` writes which keys to ask, exactly where those that are listed are

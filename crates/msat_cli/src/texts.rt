@@ -8,7 +8,7 @@ ghost use Rattle.def_sane.specs.Unfit.{first_unfit, first_unfit_under, first_unf
 ghost use Rattle.ms_tree.specs.Shape.{shape};
 ghost use Rattle.ms_sane.specs.Misfits.{IsMisfit};
 ghost use Rattle.ms_sane.specs.Place.{IsOfTree};
-ghost use Rattle.def_answer.specs.Answer.{script_reply, asm_reply, check_reply, policy_reply};
+ghost use Rattle.def_answer.specs.Answer.{script_reply, asm_reply, tree_reply, no_reason, check_reply, policy_reply};
 ghost use Rattle.def_answer.specs.Lines.{unfit_line as the_unfit_line};
 ghost use Rattle.def_answer.specs.Reply.{reply};
 ghost use Rattle.def_answer.specs.Sources.{NeedsSource};
@@ -24,7 +24,7 @@ use def_answer::Status;
 use def_choice::Choice;
 use def_text::TextFault;
 use ms_io::Source;
-use ms_replies::{ChoiceTree, asm_report};
+use ms_replies::{ChoiceTree, asm_report, tree_answer};
 use ms_report::{Answer, check_report, policy_report, script_report, text_line, unfit_line};
 use ms_sane::{Misfit, Rules, SaneTree, Unfit, ValidTree};
 use ms_text::{TextTree, read_text};
@@ -66,6 +66,7 @@ fn answer_tree<S: Source>(
     match kind {
         TextCommand::Script(rules) => answer_script(alloc, rules, text),
         TextCommand::Asm(rules) => answer_asm(alloc, rules, text),
+        TextCommand::Tree(rules) => answer_outline(alloc, rules, text),
         TextCommand::Check(rules) => answer_check(alloc, rules, text),
         TextCommand::Policy => answer_policy(alloc, text),
         TextCommand::Satisfy(choice, rules) => answer_satisfy(alloc, choice, rules, text, source),
@@ -95,6 +96,14 @@ fn answer_asm(alloc: Global, rules: Rules, text: &TextTree<'_>) -> Result<Answer
         Ok(_valid) => done(asm_report(alloc, text)),
         Err(misfit) => refuse_tree(alloc, text, misfit),
     }
+}
+
+/// Answers with the nodes of a text's tree, and, where it isn't sane, with the first reason against it.
+fn answer_outline(alloc: Global, rules: Rules, text: &TextTree<'_>) -> Result<Answer, Stop>
+    requires { IsInRange (shape text.now.tree) }
+    ensures { EndsAtOnce no_reason (tree_reply rules text.now.offsets.items) (shape text.now.tree) text.now.offsets.items result }
+{
+    or_memory(tree_answer(alloc, rules, text))
 }
 
 /// Answers with what is known of a sane text.

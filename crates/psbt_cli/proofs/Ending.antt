@@ -1,34 +1,27 @@
 -- From the reply and what was written of it to how the call ends.
-use Rattle.std.proofs.Common.{◌≡◌, ◌≢◌, ◌⊎◌, ◌<◌, ◌≤◌, Bool, true, false, nat_lt, Some, None, Ok, Err, inl, inr, refl, sym, ◌∙◌, ap, subst, arith, List, [], ◌∷◌, length, if◌then◌else◌}
+use Rattle.std.proofs.Common.{◌≡◌, ◌≢◌, ◌⊎◌, ◌<◌, ◌≤◌, Bool, true, false, nat_lt, Some, None, Ok, Err, inl, inr, refl, sym, ◌∙◌, ap, subst, arith, List, [], length}
 use Rattle.std.proofs.lemmas.Bool.{ltb-true, ltb-false}
-use Rattle.std.specs.Prelude.{Option, Result, ⊤}
-use Rattle.std.specs.List.{list_all}
+use Rattle.std.specs.Prelude.{Option, Result}
 use Rattle.std.specs.Io.KnownBytes.{IsAtEnd}
 use Rattle.def_script.specs.Bytes.{Bytes}
 use Rattle.ms_io.specs.Endings.{Writes}
 use Rattle.ms_io.specs.Sides.{Rose, Side}
 use Rattle.ms_io.specs.Reads.{AreTold, Held}
-use Rattle.def_combine.specs.declared.CombineRefusal.{CombineRefusal}
 use Rattle.def_combine.specs.declared.CombineRefusal.TheVariants as unjoined
 use Rattle.def_combine.specs.Combine.{parts_of, combined_of}
-use Rattle.def_psbt.specs.declared.Refusal.{Refusal}
 use Rattle.def_psbt.specs.declared.Refusal.TheVariants.{TooLong}
-use Rattle.def_psbt.specs.Map.{Psbt}
 use Rattle.def_psbt.specs.Source.{MAX_SOURCE_SIZE, psbt_bytes, psbt_of}
-use Rattle.def_spend.specs.Reading.{Input}
-use Rattle.def_verify.specs.Verdict.{verdict_of, is_valid}
 use Rattle.def_psbt_answer.specs.declared.status.Status.{Status}
 use Rattle.def_psbt_answer.specs.declared.status.Status.TheVariants as status
-use Rattle.def_psbt_answer.specs.declared.words.Command.{Command}
 use Rattle.def_psbt_answer.specs.declared.words.Command.TheVariants as command
-use Rattle.def_psbt_answer.specs.declared.words.Form.{Form}
 use Rattle.def_psbt_answer.specs.declared.words.Request.{Request}
 use Rattle.def_psbt_answer.specs.declared.words.Request.TheVariants as request
 use Rattle.def_psbt_answer.specs.Words.{request_of}
-use Rattle.def_psbt_answer.specs.Reply.{Reply, reply, refusal_reply, form_of, is_settled, first_open, extract_by, extract_reply, command_reply, combine_reply}
+use Rattle.def_psbt_answer.specs.Reply.{Reply, reply, refusal_reply, form_of, combine_reply}
 use Rattle.def_psbt_answer.specs.Answer.{RepliesToSource, RepliesToRequest, RepliesToWords, Answer}
+use Rattle.ms_psbt_answer_laws.proofs.Statuses.{IsAnswered, answers_have_status}
 use Rattle.ms_psbt_answer_laws.proofs.Unique.{one_answer}
-use Rattle.ms_psbt_replies.specs.declared.reply.Reply.{Reply as Made}
+use Rattle.ms_psbt_report.specs.declared.replies.reply.Reply.{Reply as Made}
 use Rattle.psbt_cli.specs.declared.answer.Stop.{Stop}
 use Rattle.psbt_cli.specs.declared.answer.Stop.TheVariants as stop
 use Rattle.psbt_cli.specs.Ends.{Call, HasAnswer, Ends, IsFault, EndsAsUsage, EndsAsAnswered, TellsShortSource, IsReadFor}
@@ -119,50 +112,6 @@ ends call (Err stop.ReadFault) a w = inr (inr (inl (w.0, a.0, w.1, a.1)))
 ends call (Err stop.Memory) a w = inr (inr (inr (w.0, w.1, a)))
 
 -- ---- answers are none of the faults
-
-abbrev pub IsAnswered : Status → Type 0
-IsAnswered status.Done = ⊤
-IsAnswered status.Usage = ⊤
-IsAnswered status.Refused = ⊤
-IsAnswered status.Open = ⊤
-IsAnswered status.ReadFault = ⊥
-IsAnswered status.WriteFault = ⊥
-IsAnswered status.Memory = ⊥
-
-settled_answered : (b : Bool) → IsAnswered (if b then status.Done else status.Open)
-settled_answered true = tt
-settled_answered false = tt
-
-extract_answered : (psbt : Psbt) (o : Option Input) → IsAnswered (extract_by o psbt).status
-extract_answered psbt (Some input) = tt
-extract_answered psbt None = tt
-
-extract_all_answered : (psbt : Psbt) (inputs : List Input) → IsAnswered (extract_reply psbt inputs).status
-extract_all_answered psbt [] = tt
-extract_all_answered psbt (input ∷ inputs) = extract_answered psbt (first_open (input ∷ inputs))
-
-command_answered : (command : Command) (form : Form) (psbt : Psbt) (inputs : List Input) → IsAnswered (command_reply command form psbt inputs).status
-command_answered (command.Finalize verification) form psbt inputs = settled_answered (list_all is_settled inputs)
-command_answered (command.Inspect verification) form psbt inputs = settled_answered (list_all is_settled inputs)
-command_answered command.Extract form psbt inputs = extract_all_answered psbt inputs
-command_answered (command.Hashes verification) form psbt inputs = tt
-command_answered command.Verify form psbt inputs = settled_answered (list_all (λ input. is_valid (verdict_of input)) inputs)
-
-source_answered : (command : Command) (form : Form) (o : Result Psbt Refusal) (r : Reply) → RepliesToSource command form o r → IsAnswered r.status
-source_answered command form (Ok psbt) r (inputs, are, is) = subst (λ (x : Reply). IsAnswered x.status) (sym is) (command_answered command form psbt inputs)
-source_answered command form (Err refusal) r is = subst (λ (x : Reply). IsAnswered x.status) (sym is) tt
-
-combine_answered : (o : Result Psbt CombineRefusal) → IsAnswered (combine_reply o).status
-combine_answered (Ok whole) = tt
-combine_answered (Err refusal) = tt
-
-words_answered : (o : Option Request) (bytes : Bytes) (r : Reply) → RepliesToWords o bytes r → IsAnswered r.status
-words_answered None bytes r is = subst (λ (x : Reply). IsAnswered x.status) (sym is) tt
-words_answered (Some request.Combine) bytes r is = subst (λ (x : Reply). IsAnswered x.status) (sym is) (combine_answered (combined_of bytes))
-words_answered (Some (request.One command)) bytes r h = source_answered command (form_of bytes) (psbt_of bytes) r h
-
-pub answers_have_status : (words : List Bytes) (bytes : Bytes) (answer : Status) (report : Bytes) → Answer words bytes answer report → IsAnswered answer
-answers_have_status words bytes answer report a = words_answered (request_of words) bytes (reply answer report) a.replies
 
 is_answered : (words : List Bytes) (source : Side) (answer : Status) (report : Bytes) → HasAnswer words source answer report → IsAnswered answer
 is_answered words source answer report h = answers_have_status words h.0 answer report h.2

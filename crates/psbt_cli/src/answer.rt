@@ -10,7 +10,7 @@ use crate::words::read_request;
 use def_psbt_answer::Request;
 use ms_io::{ReadStop, Source, read_all};
 use ms_psbt::MAX_SOURCE_SIZE;
-use ms_psbt_replies::{Reply, request_reply};
+use ms_psbt_report::{Reply, request_reply};
 use ms_words::Word;
 use std::alloc::Global;
 

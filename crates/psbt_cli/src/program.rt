@@ -15,7 +15,7 @@ use def_psbt_answer::Status;
 use ms_combine_laws::laws::combined;
 use ms_io::{Sink, Source, put_report};
 use ms_psbt_laws::laws::{network, written};
-use ms_psbt_replies::Reply;
+use ms_psbt_report::Reply;
 use ms_spend_laws::laws::{ready, tried, unsatisfied, verified};
 use ms_words::Word;
 use std::alloc::Global;

@@ -3,7 +3,8 @@ ghost use Rattle.std.specs.Prelude.{◌≤◌};
 ghost use Rattle.ms_frame.specs.Asking.{AsksLines};
 ghost use Rattle.ms_frame.specs.Frame.{EndsAsLines};
 ghost use Rattle.ms_io.specs.Sides.{call, side};
-ghost use Rattle.psbt_lines.specs.Frame.{psbt_answers, status_of};
+ghost use Rattle.ms_psbt_line_laws.specs.Psbt.{psbt_answers};
+ghost use Rattle.psbt_lines.specs.Frame.{status_of};
 ghost use Rattle.psbt_lines.specs.Promises.{IsCallOfPsbt};
 
 use crate::answering::Psbt;

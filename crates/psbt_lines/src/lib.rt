@@ -6,4 +6,3 @@ pub use frame::program;
 
 mod answering;
 mod frame;
-pub mod laws;

@@ -11,7 +11,7 @@ use Rattle.ms_io.specs.Sides.{Rose, Side}
 use Rattle.ms_io.specs.Endings.{Writes, WritesNothing}
 use Rattle.def_answer.specs.declared.status.Status.{Status}
 use Rattle.def_answer.specs.declared.status.Status.TheVariants as status
-use Rattle.def_answer.specs.Answer.{script_reply, asm_reply, check_reply, policy_reply, Replies}
+use Rattle.def_answer.specs.Answer.{script_reply, asm_reply, tree_reply, no_reason, check_reply, policy_reply, Replies}
 use Rattle.ms_answer_laws.specs.Laws.{walked}
 use Rattle.def_answer.specs.Lines.{text_line, unfit_line, MOST_FILE}
 use Rattle.def_answer.specs.Files.{file_too_long_line}
@@ -33,6 +33,7 @@ use Rattle.msat_cli.specs.Ends.{HasShortText, TakesMemory}
 abbrev pub reason_of : TextCommand → Tree → Option Unfit
 reason_of (kind.Script rules) = first_unfit_valid_under rules
 reason_of (kind.Asm rules) = first_unfit_valid_under rules
+reason_of (kind.Tree rules) = no_reason
 reason_of (kind.Check rules) = first_unfit_under rules
 reason_of (kind.Satisfy choice rules) = reason_by choice rules
 reason_of kind.Policy = first_unfit
@@ -44,6 +45,7 @@ reason_of kind.Trace = first_unfit_valid
 abbrev pub reply_of : TextCommand → (source : Bytes) → (offsets : List ℕ) → Tree → Reply
 reply_of (kind.Script rules) source offsets = script_reply
 reply_of (kind.Asm rules) source offsets = asm_reply offsets
+reply_of (kind.Tree rules) source offsets = tree_reply rules offsets
 reply_of (kind.Check rules) source offsets = check_reply rules
 reply_of (kind.Satisfy choice rules) source offsets = satisfy_reply rules (chosen_by choice) source
 reply_of kind.Policy source offsets = policy_reply
@@ -55,6 +57,7 @@ reply_of kind.Trace source offsets = text_trace_reply offsets source
 abbrev pub ReadsFor : TextCommand → Tree → Type 0
 ReadsFor (kind.Script rules) tree = ⊥
 ReadsFor (kind.Asm rules) tree = ⊥
+ReadsFor (kind.Tree rules) tree = ⊥
 ReadsFor (kind.Check rules) tree = ⊥
 ReadsFor (kind.Satisfy choice rules) tree = reason_by choice rules tree ≡ None
 ReadsFor kind.Policy tree = ⊥

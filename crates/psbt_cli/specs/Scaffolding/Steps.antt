@@ -14,7 +14,7 @@ use Rattle.def_psbt_answer.specs.Lines.{refusal_line}
 use Rattle.def_answer.specs.Reply.{usage_line}
 use Rattle.def_psbt_answer.specs.Reply.{Reply, reply, usage_reply, refusal_reply}
 use Rattle.def_psbt_answer.specs.Answer.{RepliesToRequest}
-use Rattle.ms_psbt_replies.specs.declared.reply.Reply.{Reply as Made}
+use Rattle.ms_psbt_report.specs.declared.replies.reply.Reply.{Reply as Made}
 use Rattle.psbt_cli.specs.declared.answer.Stop.{Stop}
 use Rattle.psbt_cli.specs.declared.answer.Stop.TheVariants as stop
 

@@ -4,7 +4,7 @@ use Rattle.def_sane.specs.declared.Rules.TheVariants.{Policy}
 use Rattle.def_sane.specs.Unfit.{first_unfit, first_unfit_valid}
 use Rattle.def_choice.specs.declared.choice.Choice.TheVariants.{Strict, Cheapest}
 use Rattle.def_answer.specs.Samples.{A, pk}
-use Rattle.def_answer.specs.Words.{script, asm, check, satisfy, run, gen, policy, plan, audit, trace, trace_text, decode}
+use Rattle.def_answer.specs.Words.{script, asm, outline, check, satisfy, run, gen, policy, plan, audit, trace, trace_text, decode}
 use Rattle.ms_answer_laws.proofs.Forms.{is_form}
 use Rattle.ms_answer_laws.proofs.Sources.{passes, fails, reads_by, none_reads}
 use Rattle.ms_answer_laws.proofs.Computing.{answers_on_literals}
@@ -26,6 +26,7 @@ returns c = record {
     none_reads _ refl,
     reads_by _ (script Policy (pk A)) refl (λ h. h),
     reads_by _ (asm Policy (pk A)) refl (λ h. h),
+    reads_by _ (outline Policy (pk A)) refl (λ h. h),
     reads_by _ (check Policy (pk A)) refl (λ h. h),
     reads_by _ (gen 4) refl (λ h. h),
     reads_by _ (policy (pk A)) refl (λ h. h),

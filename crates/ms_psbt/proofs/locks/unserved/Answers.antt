@@ -4,8 +4,11 @@ use Rattle.def_psbt.specs.Listed.{input_form}
 use Rattle.def_psbt.specs.Map.{map_text}
 use Rattle.def_psbt.specs.Reading.{input_rules}
 use Rattle.ms_psbt.proofs.Leaving.{next_map}
-use Rattle.ms_psbt.proofs.Locking.{unserved_here, unserved_next, whole_is_map}
+use Rattle.ms_psbt.proofs.Locking.{unserved_here, unserved_next, none_unserved, whole_is_map}
 use Rattle.ms_psbt.proofs.locks.unserved.Goals as goal
+
+pub returns-then-not-is_locked : goal.returns-then-not-is_locked
+returns-then-not-is_locked c = λ at inputs placed. sym (none_unserved at inputs (sym (c.requires at inputs placed) ∙ c.if-not-is_locked.true))
 
 pub returns-then-both : goal.returns-then-both
 returns-then-both c = λ at inputs placed.

@@ -1,7 +1,7 @@
 use Rattle.std.proofs.Common.{◌∙◌, ap}
 use Rattle.std.proofs.lemmas.Result.{on_ok_weaker}
-use Rattle.ms_verify.specs.Asked.{judged_from}
-use Rattle.ms_verify.proofs.Checks.{judged_is}
+use Rattle.ms_input.specs.Checking.{judged_from}
+use Rattle.ms_input.proofs.Checks.{judged_is}
 use Rattle.ms_psbt_report.proofs.Validity.{passed_told}
 use Rattle.ms_psbt_report.proofs.verifying.push_passed.Goals as goal
 

@@ -2,7 +2,7 @@ use Rattle.std.proofs.Common.{◌≡◌, ◌++◌, drop}
 use Rattle.std.specs.List.{flat_map}
 use Rattle.def_spend.specs.Input.{Spend}
 use Rattle.def_psbt_answer.specs.Verified.{passed_line}
-use Rattle.ms_verify.specs.Signing.{IsAsked}
+use Rattle.ms_input.specs.Signing.{IsAsked}
 use Rattle.ms_psbt_report.proofs.verifying.push_passed_lines.Given as goal
 
 -- the lines so far and those of the pairs that are left

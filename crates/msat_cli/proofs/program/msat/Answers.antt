@@ -8,6 +8,7 @@ use Rattle.msat_cli.proofs.PlanLemmas.{shows_plan}
 use Rattle.msat_cli.proofs.AuditLemmas.{shows_audit}
 use Rattle.msat_cli.proofs.TraceLemmas.{shows_trace, shows_run, shows_nodes}
 use Rattle.msat_cli.proofs.ListingLemmas.{shows_listing}
+use Rattle.msat_cli.proofs.OutlineLemmas.{shows_tree}
 use Rattle.msat_cli.proofs.PolicyLemmas.{shows_policy}
 use Rattle.msat_cli.proofs.DecodingLemmas.{shows_reading}
 use Rattle.msat_cli.proofs.program.msat.Given.{Over}
@@ -47,6 +48,7 @@ returns-clause-promises g c =
       lightest_unchanged = shows_lightest_unchanged this utf8 end;
       lightest = shows_lightest this utf8 end;
       listing = shows_listing this utf8 end;
+      outline = shows_tree this utf8 end;
       policy = shows_policy this utf8 end;
       plan = shows_plan this utf8 end;
       audit = shows_audit this utf8 end;

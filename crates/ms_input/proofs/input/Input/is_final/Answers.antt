@@ -1,6 +1,6 @@
 use Rattle.std.proofs.Common.{◌||◌, ap, subst, ◌∙◌}
 use Rattle.def_spend.specs.Reading.{has_byte, has_item}
-use Rattle.ms_fields.specs.Held.{Held}
+use Rattle.ms_input.specs.Held.{Held}
 use Rattle.ms_input.specs.Seen.{Seen}
 use Rattle.ms_input.specs.Scaffolding.Kept.{IsAt}
 use Rattle.ms_input.proofs.input.Input.is_final.Goals as goal

@@ -1,170 +1,73 @@
-use Rattle.std.proofs.Common.{◌≡◌, slice_get, Some, refl, sym, ap, subst, ◌∙◌}
-use Rattle.def_script.specs.Bytes.{Bytes}
-use Rattle.def_spend.specs.Reading.{IsReadAs}
-use Rattle.std.specs.Option.{option_map}
-use Rattle.ms_tree.specs.Shape.{shape}
-use Rattle.ms_utxo.specs.Spending.{code_seen, code_found, IsSpending}
-use Rattle.ms_finalize.specs.Settled.{IsOf}
-use Rattle.ms_input.specs.Seen.{spend_at}
+use Rattle.std.proofs.Common.{◌≡◌, slice_get, Some, subst, ◌∙◌}
 use Rattle.def_spend.specs.declared.Verification.{Verification}
-use Rattle.def_spend.specs.Input.{spends_of}
-use Rattle.ms_input.proofs.Places.{is_at, input_is, locks_are}
-use Rattle.ms_input.proofs.Found.{guarded_by, found_early, found_settled, early_judged, in_range_of}
-use Rattle.ms_input.proofs.Judged.{told_verifying, script_in_is, is_judged}
+use Rattle.def_spend.specs.declared.Verification.TheVariants.{Unverified}
+use Rattle.def_spend.specs.Input.{Spend, spends_of}
+use Rattle.ms_input.specs.Seen.{spend_at}
+use Rattle.ms_input.specs.Spending.{code_seen, code_found, IsSpending}
+use Rattle.ms_input.specs.Scaffolding.Kept.{IsAt, IsToldOf}
+use Rattle.ms_input.proofs.Places.{is_at, locks_are, are_assets}
+use Rattle.ms_input.proofs.Found.{guarded_by}
+use Rattle.ms_input.proofs.JudgedBy.{told_verifying}
 use Rattle.ms_input.proofs.input.Input.read.Goals as goal
 
+pub settled_by-requires : goal.settled_by-requires
+settled_by-requires c =
+    let at = is_at Unverified c.args.psbt.now c.args.transaction.now c.args.number c.input-input.result c.input_map.result c.in_ok-fields.fields
+    c.requires.transaction c.input-input.ensures c.input_map.ensures.map c.in_ok-fields.ensures in
+    let spend = spend_at Unverified c.args.psbt.now c.args.number in
+    are_assets c.args.psbt.now c.args.number c.input-input.result c.in_ok-fields.fields _ c.requires.assets at
+    (locks_are spend c.args.psbt.now.transaction c.args.transaction.now c.input-input.result c.version.result c.sequence.result c.lock_time.result
+    c.version.ensures c.sequence.ensures c.lock_time.ensures c.requires.transaction at.transaction at.same_input)
+
+-- ---- when all is found
+
+abbrev spend : goal.After-script_or_none → Spend
+spend c = spend_at c.verification_of.result c.args.psbt.now c.args.number
+
+at : (c : goal.After-script_or_none) → IsAt c.verification_of.result c.args.psbt.now c.args.number (spend c) c.input-input.result c.in_ok-fields.fields
+at c =
+    is_at c.verification_of.result c.args.psbt.now c.args.transaction.now c.args.number c.input-input.result c.input_map.result c.in_ok-fields.fields
+    c.requires.transaction c.input-input.ensures c.input_map.ensures.map c.in_ok-fields.ensures
+
+spending : (c : goal.After-script_or_none) → IsSpending (spend c) c.input-input.result c.in_ok-fields.fields
+spending c = record { same_input = (at c).same_input; fields = (at c).fields }
+
+told : (c : goal.After-script_or_none) → IsToldOf (spend c) c.input-input.result c.in_ok-fields.fields c.spending-spent.result
+    (record { version = c.version.result; sequence = c.sequence.result; locktime = c.lock_time.result }) c.args.verifying
+told c = record {
+  same_input = (at c).same_input;
+  fields = (at c).fields;
+  amount = c.spending-spent.ensures.amount (spend c) (spending c);
+  script = c.spending-spent.ensures.script (spend c) (spending c);
+  values = locks_are (spend c) c.args.psbt.now.transaction c.args.transaction.now c.input-input.result c.version.result c.sequence.result c.lock_time.result
+      c.version.ensures c.sequence.ensures c.lock_time.ensures c.requires.transaction (at c).transaction (at c).same_input;
+  verified = (at c).same_verification ∙ c.verification_of.ensures;
+  verifies = told_verifying c.args.verifying c.args.psbt.now c.args.number (spend c) (at c) c.requires.verifying;
+}
+
 pub invariant_of-result : goal.invariant_of-result
-invariant_of-result c =
-    let at = is_at c.verification_of-verification.result c.args.psbt.now c.args.number c.input-input.result c.input_map.result c.in_ok-fields.fields
-    (input_is c.args.psbt.now.transaction c.args.transaction.now c.args.number c.input-input.result c.requires.transaction c.input-input.ensures)
-    c.input_map.ensures.map c.in_ok-fields.ensures in
-    let spend = spend_at c.verification_of-verification.result c.args.psbt.now c.args.number in
-    let spending : IsSpending spend c.input-input.result c.in_ok-fields.fields = record { same_input = at.same_input; fields = at.fields } in
-    let script_is = sym (c.spending-spent.ensures.script spend spending) ∙ ap code_found c.in-Ok.is in
-    let of : IsOf spend c.in_ok-fields.fields _ c.judging-judging.result = record {
-      fields = at.fields;
-      values = locks_are spend c.args.psbt.now.transaction c.args.transaction.now c.input-input.result c.version.result c.sequence.result c.lock_time.result
-          c.version.ensures c.sequence.ensures c.lock_time.ensures c.requires.transaction at.transaction at.same_input;
-      judged = c.judging-judging.ensures spend (at.same_verification ∙ c.verification_of-verification.ensures)
-          (is_judged c.args.verifying spend c.in_ok-fields.fields c.asked_type.result _ at.fields c.asked_type.ensures
-          (c.asked_hash-hash.ensures spend (told_verifying c.args.verifying c.args.psbt.now c.args.number spend at c.requires.verifying) at.same_input
-          (c.as_slice-bytes.ensures ∙ script_in_is spend (code_seen c.in-Ok.script) script_is) (c.spending-spent.ensures.amount spend spending)));
-    } in
-    let s = c.in_ok-settled-in-Ok.settled in
-    let e = c.in_ok-settled-in-Ok.ensures in
-    let reading = subst (λ (b : Bytes). IsReadAs c.in_ok-fields.fields.keys b (option_map shape s.tree)) c.as_slice-bytes.ensures e.reading in
-    record {
-      at = at;
-      guarded = guarded_by spend c.spending-spent.result.kind (code_found c.spending-spent.result.script) (code_seen c.script_or_none-guarding.result)
-          (c.spending-spent.ensures.kind spend spending)
-          (c.spending-spent.ensures.script spend spending)
-          c.script_or_none-guarding.ensures;
-      found = found_settled spend c.spending-spent.result.amount c.in_ok-fields.fields _ c.judging-judging.result (code_seen c.in-Ok.script) (option_map shape s.tree)
-          s.state s.assets s.stack
-          (c.spending-spent.ensures.amount spend spending)
-          (sym (c.spending-spent.ensures.script spend spending) ∙ ap code_found c.in-Ok.is)
-          of
-          (record { reading = reading; in_range = in_range_of s.tree e.in_range; state_is = e.state; assets_are = e.assets; stack_is = e.stack; light = e.light });
-      words_are = e.words spend of;
-    }
+invariant_of-result c = record {
+  at = at c;
+  guarded = guarded_by (spend c) c.spending-spent.result.amount c.spending-spent.result.kind (code_found c.spending-spent.result.script) (code_seen c.script_or_none.result)
+      (told c).amount (c.spending-spent.ensures.kind (spend c) (spending c)) (told c).script c.script_or_none.ensures;
+  found = c.in_ok-settled.ensures (spend c) (told c);
+}
 
-pub invariant_of-result-in-Err : goal.invariant_of-result-in-Err
-invariant_of-result-in-Err c =
-    let at = is_at c.verification_of-verification.result c.args.psbt.now c.args.number c.input-input.result c.input_map.result c.in_ok-fields.fields
-    (input_is c.args.psbt.now.transaction c.args.transaction.now c.args.number c.input-input.result c.requires.transaction c.input-input.ensures)
-    c.input_map.ensures.map c.in_ok-fields.ensures in
-    let spend = spend_at c.verification_of-verification.result c.args.psbt.now c.args.number in
-    let spending : IsSpending spend c.input-input.result c.in_ok-fields.fields = record { same_input = at.same_input; fields = at.fields } in
-    record {
-      at = at;
-      guarded = guarded_by spend c.spending-spent.result.kind (code_found c.spending-spent.result.script) (code_seen c.script_or_none-guarding.result)
-          (c.spending-spent.ensures.kind spend spending)
-          (c.spending-spent.ensures.script spend spending)
-          c.script_or_none-guarding.ensures;
-      found = found_early spend c.spending-spent.result.amount c.in-Err.state
-          (c.spending-spent.ensures.amount spend spending)
-          (sym (c.spending-spent.ensures.script spend spending) ∙ ap code_found c.in-Err.is);
-      words_are = early_judged spend c.in-Err.state _ refl
-          (sym (c.spending-spent.ensures.script spend spending) ∙ ap code_found c.in-Err.is);
-    }
+pub returns-clause-spend : goal.returns-clause-spend
+returns-clause-spend c =
+    subst (λ (v : Verification). slice_get (spends_of v c.args.psbt.now) c.args.number ≡ Some (spend c)) c.verification_of.ensures (at c).there
 
-pub returns-in_ok-settled-in-Ok-clause-spend : goal.returns-in_ok-settled-in-Ok-clause-spend
-returns-in_ok-settled-in-Ok-clause-spend c =
-    subst (λ (v : Verification). slice_get (spends_of v c.args.psbt.now) c.args.number ≡ Some (spend_at c.verification_of-verification.result c.args.psbt.now c.args.number))
-    c.verification_of-verification.ensures
-    (is_at c.verification_of-verification.result c.args.psbt.now c.args.number c.input-input.result c.input_map.result c.in_ok-fields.fields
-    (input_is c.args.psbt.now.transaction c.args.transaction.now c.args.number c.input-input.result c.requires.transaction c.input-input.ensures)
-    c.input_map.ensures.map c.in_ok-fields.ensures).there
+pub returns-clause-verification : goal.returns-clause-verification
+returns-clause-verification c = (at c).same_verification ∙ c.verification_of.ensures
 
-pub returns-in_ok-settled-in-Ok-clause-verification : goal.returns-in_ok-settled-in-Ok-clause-verification
-returns-in_ok-settled-in-Ok-clause-verification c =
-    (is_at c.verification_of-verification.result c.args.psbt.now c.args.number c.input-input.result c.input_map.result c.in_ok-fields.fields
-    (input_is c.args.psbt.now.transaction c.args.transaction.now c.args.number c.input-input.result c.requires.transaction c.input-input.ensures)
-    c.input_map.ensures.map c.in_ok-fields.ensures).same_verification ∙ c.verification_of-verification.ensures
+pub returns-clause-transaction : goal.returns-clause-transaction
+returns-clause-transaction c = (at c).transaction
 
-pub returns-in_ok-settled-in-Ok-clause-transaction : goal.returns-in_ok-settled-in-Ok-clause-transaction
-returns-in_ok-settled-in-Ok-clause-transaction c =
-    (is_at c.verification_of-verification.result c.args.psbt.now c.args.number c.input-input.result c.input_map.result c.in_ok-fields.fields
-    (input_is c.args.psbt.now.transaction c.args.transaction.now c.args.number c.input-input.result c.requires.transaction c.input-input.ensures)
-    c.input_map.ensures.map c.in_ok-fields.ensures).transaction
+pub returns-clause-number : goal.returns-clause-number
+returns-clause-number c = (at c).same_number
 
-pub returns-in_ok-settled-in-Ok-clause-number : goal.returns-in_ok-settled-in-Ok-clause-number
-returns-in_ok-settled-in-Ok-clause-number c =
-    (is_at c.verification_of-verification.result c.args.psbt.now c.args.number c.input-input.result c.input_map.result c.in_ok-fields.fields
-    (input_is c.args.psbt.now.transaction c.args.transaction.now c.args.number c.input-input.result c.requires.transaction c.input-input.ensures)
-    c.input_map.ensures.map c.in_ok-fields.ensures).same_number
+pub returns-clause-fields : goal.returns-clause-fields
+returns-clause-fields c = (at c).map_is
 
-pub returns-in_ok-settled-in-Ok-clause-fields : goal.returns-in_ok-settled-in-Ok-clause-fields
-returns-in_ok-settled-in-Ok-clause-fields c =
-    (is_at c.verification_of-verification.result c.args.psbt.now c.args.number c.input-input.result c.input_map.result c.in_ok-fields.fields
-    (input_is c.args.psbt.now.transaction c.args.transaction.now c.args.number c.input-input.result c.requires.transaction c.input-input.ensures)
-    c.input_map.ensures.map c.in_ok-fields.ensures).map_is
-
-pub returns-in_ok-settled-in-Ok-clause-reading : goal.returns-in_ok-settled-in-Ok-clause-reading
-returns-in_ok-settled-in-Ok-clause-reading c =
-    let at = is_at c.verification_of-verification.result c.args.psbt.now c.args.number c.input-input.result c.input_map.result c.in_ok-fields.fields
-    (input_is c.args.psbt.now.transaction c.args.transaction.now c.args.number c.input-input.result c.requires.transaction c.input-input.ensures)
-    c.input_map.ensures.map c.in_ok-fields.ensures in
-    let spend = spend_at c.verification_of-verification.result c.args.psbt.now c.args.number in
-    let spending : IsSpending spend c.input-input.result c.in_ok-fields.fields = record { same_input = at.same_input; fields = at.fields } in
-    let script_is = sym (c.spending-spent.ensures.script spend spending) ∙ ap code_found c.in-Ok.is in
-    let of : IsOf spend c.in_ok-fields.fields _ c.judging-judging.result = record {
-      fields = at.fields;
-      values = locks_are spend c.args.psbt.now.transaction c.args.transaction.now c.input-input.result c.version.result c.sequence.result c.lock_time.result
-          c.version.ensures c.sequence.ensures c.lock_time.ensures c.requires.transaction at.transaction at.same_input;
-      judged = c.judging-judging.ensures spend (at.same_verification ∙ c.verification_of-verification.ensures)
-          (is_judged c.args.verifying spend c.in_ok-fields.fields c.asked_type.result _ at.fields c.asked_type.ensures
-          (c.asked_hash-hash.ensures spend (told_verifying c.args.verifying c.args.psbt.now c.args.number spend at c.requires.verifying) at.same_input
-          (c.as_slice-bytes.ensures ∙ script_in_is spend (code_seen c.in-Ok.script) script_is) (c.spending-spent.ensures.amount spend spending)));
-    } in
-    let s = c.in_ok-settled-in-Ok.settled in
-    let e = c.in_ok-settled-in-Ok.ensures in
-    let reading = subst (λ (b : Bytes). IsReadAs c.in_ok-fields.fields.keys b (option_map shape s.tree)) c.as_slice-bytes.ensures e.reading in
-    (found_settled spend c.spending-spent.result.amount c.in_ok-fields.fields _ c.judging-judging.result (code_seen c.in-Ok.script) (option_map shape s.tree) s.state s.assets s.stack
-    (c.spending-spent.ensures.amount spend spending)
-    (sym (c.spending-spent.ensures.script spend spending) ∙ ap code_found c.in-Ok.is)
-    of
-    (record { reading = reading; in_range = in_range_of s.tree e.in_range; state_is = e.state; assets_are = e.assets; stack_is = e.stack; light = e.light })).reading
-
-pub returns-in-Err-clause-spend : goal.returns-in-Err-clause-spend
-returns-in-Err-clause-spend c =
-    subst (λ (v : Verification). slice_get (spends_of v c.args.psbt.now) c.args.number ≡ Some (spend_at c.verification_of-verification.result c.args.psbt.now c.args.number))
-    c.verification_of-verification.ensures
-    (is_at c.verification_of-verification.result c.args.psbt.now c.args.number c.input-input.result c.input_map.result c.in_ok-fields.fields
-    (input_is c.args.psbt.now.transaction c.args.transaction.now c.args.number c.input-input.result c.requires.transaction c.input-input.ensures)
-    c.input_map.ensures.map c.in_ok-fields.ensures).there
-
-pub returns-in-Err-clause-verification : goal.returns-in-Err-clause-verification
-returns-in-Err-clause-verification c =
-    (is_at c.verification_of-verification.result c.args.psbt.now c.args.number c.input-input.result c.input_map.result c.in_ok-fields.fields
-    (input_is c.args.psbt.now.transaction c.args.transaction.now c.args.number c.input-input.result c.requires.transaction c.input-input.ensures)
-    c.input_map.ensures.map c.in_ok-fields.ensures).same_verification ∙ c.verification_of-verification.ensures
-
-pub returns-in-Err-clause-transaction : goal.returns-in-Err-clause-transaction
-returns-in-Err-clause-transaction c =
-    (is_at c.verification_of-verification.result c.args.psbt.now c.args.number c.input-input.result c.input_map.result c.in_ok-fields.fields
-    (input_is c.args.psbt.now.transaction c.args.transaction.now c.args.number c.input-input.result c.requires.transaction c.input-input.ensures)
-    c.input_map.ensures.map c.in_ok-fields.ensures).transaction
-
-pub returns-in-Err-clause-number : goal.returns-in-Err-clause-number
-returns-in-Err-clause-number c =
-    (is_at c.verification_of-verification.result c.args.psbt.now c.args.number c.input-input.result c.input_map.result c.in_ok-fields.fields
-    (input_is c.args.psbt.now.transaction c.args.transaction.now c.args.number c.input-input.result c.requires.transaction c.input-input.ensures)
-    c.input_map.ensures.map c.in_ok-fields.ensures).same_number
-
-pub returns-in-Err-clause-fields : goal.returns-in-Err-clause-fields
-returns-in-Err-clause-fields c =
-    (is_at c.verification_of-verification.result c.args.psbt.now c.args.number c.input-input.result c.input_map.result c.in_ok-fields.fields
-    (input_is c.args.psbt.now.transaction c.args.transaction.now c.args.number c.input-input.result c.requires.transaction c.input-input.ensures)
-    c.input_map.ensures.map c.in_ok-fields.ensures).map_is
-
-pub returns-in-Err-clause-reading : goal.returns-in-Err-clause-reading
-returns-in-Err-clause-reading c =
-    let at = is_at c.verification_of-verification.result c.args.psbt.now c.args.number c.input-input.result c.input_map.result c.in_ok-fields.fields
-    (input_is c.args.psbt.now.transaction c.args.transaction.now c.args.number c.input-input.result c.requires.transaction c.input-input.ensures)
-    c.input_map.ensures.map c.in_ok-fields.ensures in
-    let spend = spend_at c.verification_of-verification.result c.args.psbt.now c.args.number in
-    let spending : IsSpending spend c.input-input.result c.in_ok-fields.fields = record { same_input = at.same_input; fields = at.fields } in
-    (found_early spend c.spending-spent.result.amount c.in-Err.state
-    (c.spending-spent.ensures.amount spend spending)
-    (sym (c.spending-spent.ensures.script spend spending) ∙ ap code_found c.in-Err.is)).reading
+pub returns-clause-reading : goal.returns-clause-reading
+returns-clause-reading c = (c.in_ok-settled.ensures (spend c) (told c)).reading

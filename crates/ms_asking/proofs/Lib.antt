@@ -1,2 +1,0 @@
-pub mod KeyCount
-pub mod Tables

@@ -1,0 +1,6 @@
+mod Joined
+mod Words
+mod Judged
+mod Finding
+mod Checked
+mod Listed

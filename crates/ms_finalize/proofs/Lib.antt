@@ -1,2 +1,0 @@
-pub mod Witnessed
-pub mod Judged

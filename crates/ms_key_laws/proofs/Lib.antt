@@ -1,0 +1,17 @@
+pub mod Words
+pub mod Tokens
+pub mod Machine
+pub mod Alike
+pub mod Forms
+pub mod Named
+pub mod Texts
+pub mod Stop
+pub mod Utf8
+pub mod Read
+pub mod Clean
+pub mod Passing
+pub mod Passed
+pub mod Printed
+pub mod Again
+pub mod AgainParts
+pub mod Whole

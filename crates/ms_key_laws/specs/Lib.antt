@@ -1,0 +1,4 @@
+pub mod WithoutKeys
+pub mod Public
+pub mod Sums
+pub mod Laws

@@ -1,0 +1,12 @@
+pub mod Scripts
+pub mod Machine
+pub mod Plainly
+pub mod Reported
+pub mod Reports
+pub mod Printed
+pub mod Policies
+pub mod Outlines
+pub mod Traces
+pub mod Taken
+pub mod Witnesses
+pub mod Commands

@@ -1,0 +1,7 @@
+mod Standing
+mod Writing
+mod Below
+mod Tried
+mod Families
+mod Trying
+mod Fitted

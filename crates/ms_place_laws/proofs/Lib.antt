@@ -1,0 +1,9 @@
+pub mod Filled
+pub mod Types
+pub mod Mixing
+pub mod Scripts
+pub mod Taken
+pub mod Reasons
+pub mod Points
+pub mod Private
+pub mod Outputs

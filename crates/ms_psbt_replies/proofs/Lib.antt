@@ -1,3 +1,0 @@
-mod Writing
-mod Extracted
-mod Answering

@@ -1,2 +1,0 @@
--- What only private contracts cite. No public clause cites it, so it need not be believed.
-pub mod Written

@@ -1,0 +1,7 @@
+use Rattle.std.proofs.Common.{◌≡◌, ◌++◌, drop}
+use Rattle.hex.specs.Hex.{encode_lower}
+use Rattle.ms_psbt_report.proofs.lines.pieces.push_digits.Given as goal
+
+-- the digits so far and those of the bytes that are left
+abbrev pub invariant-loop-byte : goal.invariant-loop-byte
+invariant-loop-byte l = l.report.items ++ encode_lower (drop l.byte-index l.bytes) ≡ l.initial.report.items ++ encode_lower l.bytes

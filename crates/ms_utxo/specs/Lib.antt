@@ -1,2 +1,0 @@
-pub mod Spending
-pub mod Scaffolding

@@ -1,8 +1,0 @@
-use Rattle.std.proofs.Common.{◌≡◌, ◌-◌}
-use Rattle.def_psbt.specs.Part.{first_many, first_string}
-use Rattle.ms_verify.specs.Seen.{items_in}
-use Rattle.ms_verify.proofs.Reading.{after}
-use Rattle.ms_verify.proofs.items.first_items.Given as goal
-
-abbrev pub invariant-items : goal.invariant-items
-invariant-items l = after (items_in l.items.items) (first_many first_string (l.count - l.counter) l.rest) ≡ first_many first_string l.count l.bytes
