@@ -19,7 +19,7 @@
 # library and the programs to be built (.ci/run), and for signatures Debian's libsecp256k1-1.
 # Usage: bench/fuzz.sh [msat-psbt | signatures] [EXECUTIONS [PROCESSES]]
 . "$(dirname "$0")/lib.sh"
-wants clang objcopy python3 rt tar gzip flock
+wants clang nm objcopy python3 rt tar gzip flock
 own=msat harness=harness words=-dict=$top/bench/fuzz/msat.dict longest=6000 linked=-Wl,--wrap=read,--wrap=write
 case ${1:-} in
 msat-psbt) shift && name=fuzz_psbt own=msat_psbt harness=psbt words=-dict=$top/bench/fuzz/psbt.dict longest=20000 ;;
@@ -31,18 +31,13 @@ kit=$(dirname "$(rt doc)")
 results=$top/bench/results
 mkdir -p "$results" "$top/bench/fuzz/seeds"
 
-# The kit with another compiler, of which $COUNTED tells what it adds to the code.
+# The kit with another compiler, which is written for each archive: it is called without the surroundings of this script.
 mkdir -p "$work/kit/bin" "$work/kit/toolchain/bin" || stop "no room"
 for part in "$kit"/* "$kit"/bin/* "$kit"/toolchain/* "$kit"/toolchain/bin/*; do
     [ -e "$work/kit/${part#"$kit"/}" ] || ln -s "$part" "$work/kit/${part#"$kit"/}"
 done
 rm "$work/kit/bin/rt" "$work/kit/bin/rtlib.py" "$work/kit/toolchain/bin/clang"
 cp "$kit/bin/rt" "$kit/bin/rtlib.py" "$work/kit/bin"
-cat >"$work/kit/toolchain/bin/clang" <<CLANG
-#!/bin/sh
-exec "$kit/toolchain/bin/clang" "\$@" "-fsanitize-coverage=\$COUNTED"
-CLANG
-chmod +x "$work/kit/toolchain/bin/clang"
 archive=$top/crates/msat_c/out/libmsat_c.a
 [ -s "$archive" ] || stop "the library isn't built: .ci/archive"
 # Sets `counted` to the archive with a counter at each branch, and where that is asked for with its comparisons told. It is kept for the
@@ -50,7 +45,13 @@ archive=$top/crates/msat_c/out/libmsat_c.a
 counted() {
     counted=$top/crates/msat_c/out/$1-$(sha256sum <"$archive" | cut -c 1-16).a
     [ ! -s "$counted" ] || return 0
-    COUNTED=$2 "$top/.ci/archive" "$work/kit" "$work/counted.a" >"$work/log" 2>&1 || { cat "$work/log" >&2 && stop "the archive isn't compiled with counters"; }
+    cat >"$work/kit/toolchain/bin/clang" <<CLANG
+#!/bin/sh
+exec "$kit/toolchain/bin/clang" "\$@" -fsanitize-coverage=$2
+CLANG
+    chmod +x "$work/kit/toolchain/bin/clang"
+    "$top/.ci/archive" "$work/kit" "$work/counted.a" >"$work/log" 2>&1 || { cat "$work/log" >&2 && stop "the archive isn't compiled with counters"; }
+    nm "$work/counted.a" 2>/dev/null | grep -q __sanitizer_cov || stop "the archive has no counters"
     rm -f "$top/crates/msat_c/out/$1"-*.a
     mv "$work/counted.a" "$counted"
 }
