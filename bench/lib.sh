@@ -126,6 +126,8 @@ text_of() {
                 printf "multi(1%s)%s", keys(20), repeat(")", count + 10)
             }
             if (shape == "multi") printf "multi(1%s)", keys(count)
+            if (shape == "wrong_child") printf "thresh(1,0%s,0)", repeat(",a:0", count - 2)
+            if (shape == "wrong_children") printf "thresh(1,0%s)", repeat(",0", count - 1)
             if (shape == "runs") printf "thresh(1,0%s)", repeat(",a" repeat("n", 249) ":0", count)
         }' "$input"
 }

@@ -11,7 +11,8 @@ function asked(core, words) {
   return { status, report: new TextDecoder().decode(report).trimEnd() };
 }
 
-// Either `refusal`, or `given` with `checked`, `policy`, `keys`, `warnings`; of a text that is valid and not sane the refusal has `script`.
+// Either `refusal`, or `given` with `checked`, `instructions`, `policy`, `keys`, `warnings`; of a text that is valid and not sane the refusal has
+// `script`. With both, `seen` is what the core tells of the nodes of a text that it can read.
 function looked(core, raw, digits, keys, isConsensus) {
   let given;
   try {
@@ -22,21 +23,22 @@ function looked(core, raw, digits, keys, isConsensus) {
     return { refusal: { report: unfit.report, place: unfit.place, shown: raw, sentence: unfit.message, advice, mend: null } };
   }
   const by = isConsensus ? ["--consensus"] : [];
-  const { status, report } = asked(core, ["check", ...by, given.text]);
+  const { status, report } = asked(core, ["tree", ...by, given.text]);
   if (status === NO_MEMORY || status === UNREADABLE) {
     const sentence = status === NO_MEMORY ? "Memory was wanting." : "The text isn't UTF-8, or has a NUL.";
     return { given, refusal: { report: "refused input", place: null, shown: raw, sentence, advice: adviceFor("refused input"), mend: null } };
   }
+  const seen = outlineOf(given.text, report);
   if (status) {
-    const refusal = refusalOf(core, report, given);
-    const valid = /^refused text (Malleable|NoSignature|MixedLocks|RepeatedKey)/.test(report) ? asked(core, ["script", ...by, given.text]) : null;
-    return { given, refusal: { ...refusal, script: valid && !valid.status ? valid.report : null } };
+    const valid = /^refused text (Malleable|NoSignature|MixedLocks|RepeatedKey)/.test(seen.refusal) ? asked(core, ["script", ...by, given.text]) : null;
+    return { given, seen, refusal: { ...refusalOf(seen, given), script: valid && !valid.status ? valid.report : null } };
   }
+  const checked = linesOf(asked(core, ["check", ...by, given.text]).report);
+  const instructions = instructionsOf(asked(core, ["asm", ...by, given.text]).report);
   const demanded = asked(core, ["policy", given.text]);
   const lines = linesOf(demanded.report);
   const policy = demanded.status ? null : lines.get("policy");
-  const checked = linesOf(report);
-  return { given, checked, policy, keys: policy && lines.get("keys"), warnings: warnings(given.text, checked.get("limits")) };
+  return { given, seen, checked, instructions, policy, keys: policy && lines.get("keys"), warnings: warnings(seen.root, checked.get("limits")) };
 }
 
 // The limits that `check` prints, each with its number and what is allowed.
@@ -50,4 +52,31 @@ function limitsOf(line, isConsensus) {
 // A policy or a text with names for its digits.
 function withNames(text, given) {
   return text.replace(/[0-9a-f]{40,}/g, (value) => (given.names.has(value) ? given.nameOf(value) : value));
+}
+
+// A node with its keys, hash values and numbers, and without its children.
+function labelOf(node, given) {
+  if (node.isLetter) return `${node.name}:`;
+  const said = node.arguments.map((it) => (it.length >= 40 ? given.nameOf(it) : it));
+  if (node.children.length) said.push("..");
+  return node.name + (said.length ? `(${said.join(", ")})` : "");
+}
+
+// What a timelock waits for.
+function waitOf(kind, operand) {
+  if (kind === "older") return `${saidOlder(Number(operand))} after the output confirms`;
+  return kind === "after" ? `from ${saidAfter(Number(operand))} on` : "";
+}
+
+// What one thing is that a policy demands.
+function atomSaid({ kind, value }, given) {
+  if (kind === "never") return "nobody can spend by this";
+  if (kind === "key") return `${given.nameOf(value)} signs`;
+  return waitOf(kind, value) || `the preimage of ${given.nameOf(value)} is shown`;
+}
+
+// How many of some parts it demands.
+function gateSaid({ kind, need, parts }) {
+  if (kind === "all") return "all of these:";
+  return kind === "any" ? "any one of these:" : `at least ${need} of these ${parts.length}:`;
 }

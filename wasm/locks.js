@@ -47,10 +47,10 @@ function weaker(kind, operand) {
 
 // What makes a condition something else than it looks like. Each satisfaction of a sane text has a signature, so where the most that one
 // weighs is 0 there is none.
-function warnings(text, limits) {
+function warnings(root, limits) {
   const found = [];
   if (/ weight 0( |$)/.test(limits)) found.push("nobody can spend by this condition, whoever signs: nothing satisfies it, and what is paid to it is lost");
-  const locks = new Set(Array.from(walk(treeOf(text))).filter((it) => ["older", "after"].includes(it.name)).map((it) => `${it.name} ${it.arguments[0]}`));
+  const locks = new Set(Array.from(walk(root)).filter((it) => ["older", "after"].includes(it.name)).map((it) => `${it.name} ${it.arguments[0]}`));
   for (const lock of locks) {
     const [kind, operand] = lock.split(" ");
     const why = weaker(kind, Number(operand));

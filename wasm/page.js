@@ -3,6 +3,7 @@
 
 const MOST_SOURCE = 16777217; // A byte more than the most that is read of a PSBT: the core refuses it by itself.
 const MOST_VERIFIED = 1 << 20; // Signatures of a larger PSBT are looked at when that is asked for: it may take minutes.
+const MOST_NODES = 2000; // A tree of more isn't drawn.
 const at = (id) => document.getElementById(id);
 
 function element(tag, parts = {}, ...inner) {
@@ -100,7 +101,7 @@ class Page {
     const found = looked(this.core, raw, this.digits, keys, at("consensus").checked);
     if (found.given) this.showNames(found.given.used);
     at("text").setAttribute("aria-invalid", String(Boolean(found.refusal)));
-    answer.replaceChildren(...(found.refusal ? this.refusal(found.refusal) : this.facts(found)));
+    answer.replaceChildren(...(found.refusal ? this.refusal(found.refusal) : this.facts(found)), ...this.nodes(found));
     this.showHeld(found.refusal ? null : found);
     return found;
   }
@@ -165,7 +166,7 @@ class Page {
       said.push(element("p", { class: "soft" }, `It is valid all the same: its Script has ${bytes} bytes. `, by("core")));
     }
     said.push(element("p", { class: "soft" }, code(found.report), " ", by(found.report.startsWith("refused input") ? "page" : "core")));
-    said.push(element("p", { class: "soft" }, "The mark, the rule in words and the advice ", by("page"), ", the types in them ", by("core")));
+    said.push(element("p", { class: "soft" }, "The mark, the rule in words and the advice ", by("page"), ", the types in them and the letter that fits ", by("core")));
     return said;
   }
 
@@ -198,7 +199,48 @@ class Page {
       const program = bytesOfHex(checked.get("program")).slice(2);
       for (const [name, start] of NETWORKS) rows.push([`Address, ${name} network`, code(address(start, program)), by("page")]);
     }
-    return [...notes, table("what is known of the condition", ["What", "Answer", "By"], rows), this.limits(checked.get("limits"))];
+    const spent = policy ? this.spent(policy, given) : [];
+    return [...notes, ...spent, table("what is known of the condition", ["What", "Answer", "By"], rows), this.limits(checked.get("limits"))];
+  }
+
+  // Who can spend, and when: the policy as a list.
+  spent(policy, given) {
+    const item = (part) => {
+      if (!part.parts) return [atomSaid(part, given)];
+      return [gateSaid(part), element("ul", {}, ...part.parts.map((it) => element("li", {}, ...item(it))))];
+    };
+    const whole = demandOf(policy);
+    const list = element("ul", { class: "demands", id: "demands" }, ...(whole.kind === "any" ? whole.parts : [whole]).map((it) => element("li", {}, ...item(it))));
+    const said = whole.kind === "any" ? "Any one of these is enough. " : "This is needed. ";
+    return [element("h3", {}, "Who can spend, and when"), element("p", {}, said, element("span", { class: "soft" }, "The policy is the core’s, the words are the page’s. "), by("core"), " ", by("page")), list];
+  }
+
+  // The tree of a text that the core can read, and the instructions of the Script of one that is sane. A node that is pressed is lit with what
+  // stands below it, in the tree and in the Script.
+  nodes(found) {
+    if (!found.seen || !found.seen.root) return [];
+    const { given, seen, instructions } = found;
+    if (seen.nodes.size > MOST_NODES) return [element("p", { class: "soft" }, `Its tree has ${counted(seen.nodes.size)} nodes, and isn’t drawn. `, by("core"))];
+    const light = (node) => {
+      const own = new Set(Array.from(walk(node), ({ place }) => String(place)));
+      for (const it of at("answer").querySelectorAll("[data-place]")) it.classList.toggle("lit", own.has(it.dataset.place));
+    };
+    const branch = (node) => {
+      const label = element("button", { type: "button", class: node.kind === "-" ? "node wrong" : "node", "data-place": node.place, on: ["click", () => light(node)] }, code(labelOf(node, given)));
+      const wait = waitOf(node.name, node.arguments[0]);
+      const kind = element("span", { class: "soft" }, ` ${node.kind === "-" ? "no type" : node.kind}${wait ? `: ${wait}` : ""}`);
+      return element("li", {}, label, kind, ...(node.children.length ? [element("ul", {}, ...node.children.map(branch))] : []));
+    };
+    const tree = element("details", { open: true, id: "tree" }, element("summary", {}, "The tree, each node with its type ", by("core")), element("ul", { class: "tree" }, branch(seen.root)));
+    return instructions ? [tree, this.script(found)] : [tree];
+  }
+
+  script({ given, seen, instructions }) {
+    const said = ([name, pushed]) => (name === "push" ? `push ${pushed.length >= 40 ? given.nameOf(pushed) : pushed}` : name);
+    const rows = instructions.map((it) => [String(it.offset), code(said(it.said)), code(labelOf(seen.nodes.get(it.place), given))]);
+    const made = table("each instruction, its byte in the Script, and the node that wrote it", ["Byte", "Instruction", "Node"], rows, []);
+    made.querySelectorAll("tbody tr").forEach((row, number) => row.setAttribute("data-place", instructions[number].place));
+    return element("details", { id: "script" }, element("summary", {}, "The Script, instruction by instruction ", by("core")), made);
   }
 
   // What `satisfy` makes of a sane text and of the asset file in its field, and the run of that.

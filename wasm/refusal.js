@@ -2,8 +2,6 @@
 // Why something is refused, for a person: the rule in a sentence, and what to do, as python/msat/explain/refusals.py has it. WORDS are its
 // tables, which ./page puts before this script.
 
-const MOST_TRIED = 20;
-const TRIED = "vsajncdtlu";
 const counted = (number) => String(number).replace(/\B(?=(\d{3})+$)/g, ",");
 
 // What a report asks for.
@@ -49,13 +47,9 @@ function formOf(node) {
 }
 
 // The rule of a node that breaks one, what its letters mean, and of which types its children are.
-function brokenRule(core, refused, node) {
-  const kinds = new Kinds(core);
+function brokenRule(refused, node) {
   const names = partsOf(node);
-  const parts = node.children.slice(0, names.length).map((child, at) => {
-    kinds.ask(child);
-    return names[at] ? `${names[at]} is ${child.kind}` : `the child is ${child.kind}`;
-  });
+  const parts = node.children.slice(0, names.length).map(({ kind }, at) => `${names[at] || "the child"} is ${kind}`);
   const wanted = requiredBy(refused.subject);
   const letters = [...new Set(wanted.match(/\b[A-Za-z]\b/g))].filter((letter) => letter in WORDS.letters);
   const meant = letters.map((letter) => `${letter} ${WORDS.letters[letter]}`).join("; ");
@@ -63,39 +57,21 @@ function brokenRule(core, refused, node) {
   return `${formOf(node)} requires: ${wanted}.${here}${meant ? ` (${meant}.)` : ""}`;
 }
 
-// A letter before a child with which the core doesn't refuse the node for this rule any more: the first one that makes the whole sane,
-// or else that makes it fit here; null where there is none. Its place in what was pasted, and the letter.
-function fittingLetter(core, refused, given, node) {
-  let fits = null;
-  for (const child of node.children.slice(0, MOST_TRIED)) {
-    for (const letter of TRIED) {
-      const { report } = core.answer("msat", ["check", given.text.slice(0, child.place) + below(letter, given.text.slice(child.place))]);
-      const other = refusedFor(new TextDecoder().decode(report).trim());
-      const found = { letter, place: given.place(child.place), shown: shownNode(child, given) };
-      if (!other) return found;
-      const isInside = other.place !== null && node.place <= other.place && other.place < node.place + node.text.length + 2;
-      const isWorse = ["Syntax", "TooDeep"].includes(other.name) || (other.name === "Rule" && refused.name === "Malleable");
-      if (!fits && !isWorse && !(isInside && other.name === refused.name)) fits = found;
-    }
-  }
-  return fits;
-}
-
-// A node as it was pasted, cut where it is long.
-function shownNode(node, given) {
-  const said = [...given.shown.slice(given.place(node.place), given.place(node.place + node.text.length))].filter((it) => !SPACE.test(it));
-  return said.length <= 40 ? said.join("") : said.slice(0, 38).join("") + "..";
+// The letter that fits, its place in what was pasted, and what stands there, cut where that is long.
+function mendOf({ letter, place }, given) {
+  const said = [...given.shown.slice(given.place(place), given.place(endOf(given.text, place)))].filter((it) => !SPACE.test(it));
+  return { letter, place: given.place(place), shown: said.length <= 40 ? said.join("") : said.slice(0, 38).join("") + ".." };
 }
 
 // The refusal of a text, where its wrong place came from. `mend` is the letter that fits, if one does.
-function refusalOf(core, report, given) {
+function refusalOf(seen, given) {
+  const report = seen.refusal;
   const refused = refusedFor(report);
   const place = refused.place === null ? null : given.place(refused.place);
-  let [sentence, advice, mend] = ["", adviceFor(report), null];
+  const mend = seen.fit && mendOf(seen.fit, given);
+  let [sentence, advice] = ["", adviceFor(report)];
   if (refused.name === "Rule" || refused.name === "Malleable") {
-    const node = Array.from(walk(treeOf(given.text))).find((it) => it.place === refused.place);
-    sentence = brokenRule(core, refused, node);
-    mend = fittingLetter(core, refused, given, node);
+    sentence = brokenRule(refused, seen.nodes.get(refused.place));
     advice = advice.replace(/\.+$/, "") + (mend ? `. It fits with ${mend.letter}: before ${mend.shown}` : "");
   } else {
     sentence = WORDS.sentences[refused.name].replace(/\{number\}/g, counted(refused.number || 0));

@@ -53,7 +53,9 @@ function seen([raw, digits, keys, isConsensus]) {
   const text = found.given ? found.given.text : null;
   if (!found.refusal) {
     const { policy, keys: least, warnings } = found;
-    return { text, type: found.checked.get("type"), form: found.checked.get("text"), policy, keys: least, warnings, notes: found.given.done, standins: found.given.standins };
+    const nodes = Array.from(found.seen.nodes.values(), (it) => [it.name, it.place, it.kind, it.arguments]);
+    const instructions = found.instructions.map((it) => [it.offset, it.place]);
+    return { nodes, instructions, text, type: found.checked.get("type"), form: found.checked.get("text"), policy, keys: least, warnings, notes: found.given.done, standins: found.given.standins };
   }
   const { report, place, shown, sentence, advice, mend } = found.refusal;
   const [line, column] = place === null ? [null, null] : page.markedLine(shown, place, 100);

@@ -2,6 +2,7 @@
 
 import os
 import random
+import re
 import sys
 from pathlib import Path
 
@@ -87,9 +88,8 @@ class Maker:
 
 
 def wrapped(letter: str, text: str) -> str:
-    from msat.explain.tree import below
-
-    return below(letter, text)
+    """The text with a wrapper letter before it: within the letters that stand there already."""
+    return letter + text if re.match(r"[a-z]+:", text) else f"{letter}:{text}"
 
 
 def mangled(text: str, chance: random.Random) -> str:

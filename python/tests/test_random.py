@@ -12,13 +12,13 @@ import unittest
 
 import samples
 import msat
-from msat.explain import command, given, kinds
+from msat.explain import command, given
 from msat.explain.command import answer
 from msat.explain.document import document
 from msat.explain.page import page
 from msat.explain.refusals import Refusal
 from msat.explain.report import explained, refused
-from msat.explain.tree import tree
+from msat.explain.tree import expression, outline
 
 SCHEMA = json.loads((samples.TOP / "schema/explain.json").read_text())
 KINDS = {"object": dict, "array": list, "string": str, "integer": int, "boolean": bool, "null": type(None)}
@@ -173,20 +173,21 @@ class Random(unittest.TestCase):
         """The letters of the whole, and of each part that is sane alone, are those that the library tells."""
         self.assertEqual(found.root.kind, found.checked.type)
         for node in found.root.walk():
+            part = expression(found.given.text, node.place)
             with contextlib.suppress(msat.TextRefused):
-                self.assertEqual(node.kind, msat.facts(node.text, consensus=True).type)
+                self.assertEqual(node.kind, msat.facts(part, consensus=True).type)
             with contextlib.suppress(msat.TextRefused):
-                self.check_lines(found, node)
+                self.check_lines(found, node, part)
 
-    def check_lines(self, found, node):
+    def check_lines(self, found, node, part):
         """What the lines of a part come to is the Script that the library tells of it alone, where no `v` above takes a part in it."""
         below = {it.place for it in node.walk()}
         own = [line for line in found.lines if line.node.place in below]
         if all(line.by_v is None or line.by_v.place in below for line in own):
-            self.assertEqual(b"".join(line.code for line in own), msat.script(node.text, consensus=True))
+            self.assertEqual(b"".join(line.code for line in own), msat.script(part, consensus=True))
             self.assertEqual([line.at for line in own[1:]], [line.at + len(line.code) for line in own[:-1]])
 
-    def test_letters_of_parts_that_are_not_sane_alone(self):
+    def test_types_of_parts_that_are_not_sane_alone(self):
         # As BIP 379's table of types has them.
         key = "02" + 64 * "1"
         for text, kind in (
@@ -196,9 +197,7 @@ class Random(unittest.TestCase):
             (f"multi(1,{key})", "Bnduse"), (f"j:pk({key})", "Bondus"), ("l:older(1)", "Bode"), ("tv:1", "Bzuf"),
         ):  # fmt: skip
             with self.subTest(text):
-                root = tree(text)
-                kinds.ask(root)
-                self.assertEqual(root.kind, kind)
+                self.assertEqual(outline(text).root.kind, kind)
 
     def test_words_of_the_command_line(self):
         for words, status in (

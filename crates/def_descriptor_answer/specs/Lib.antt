@@ -3,6 +3,7 @@ pub mod Words
 pub mod Places
 pub mod Lines
 pub mod Reply
+pub mod Update
 pub mod Answer
 pub mod Laws
 pub mod Examples

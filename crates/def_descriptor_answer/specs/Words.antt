@@ -1,4 +1,4 @@
--- The words that `msat-descriptor` takes: `check D`, and `derive [--testnet or --regtest] [--branch B] D INDEX [COUNT]`.
+-- The words that `msat-descriptor` takes: `check D`, `derive [--testnet or --regtest] [--branch B] D INDEX [COUNT]`, and `update D COUNT`.
 use Rattle.std.specs.Prelude.{ℕ, ◌+◌, ◌-◌, ◌&&◌, nat_le, if◌then◌else◌, List, [], ◌∷◌, codes, Option, Some, None}
 use Rattle.std.specs.Option.{option_map, option_and_then}
 use Rattle.std.specs.Str.{bytes_eq}
@@ -21,6 +21,8 @@ pub data Command : Type 0 where
   check : (text : Bytes) → Command
   -- what it gives
   derive : (derivation : Derivation) → Command
+  -- a PSBT with what it says of the indices below a count
+  update : (text : Bytes) → (count : ℕ) → Command
 
 -- ---- numbers: decimal, without a leading zero
 
@@ -100,10 +102,17 @@ check_of [] = None
 check_of (text ∷ []) = Some (check text)
 check_of (text ∷ other ∷ words) = None
 
+abbrev pub update_of : List Bytes → Option Command
+update_of [] = None
+update_of (text ∷ []) = None
+update_of (text ∷ count ∷ []) = option_map (update text) (count_in count)
+update_of (text ∷ count ∷ other ∷ words) = None
+
 -- what a list of words asks, where it has a form
 abbrev pub command_of : List Bytes → Option Command
 command_of [] = None
 command_of (name ∷ words) =
     if bytes_eq name (codes "check") then check_of words
     else if bytes_eq name (codes "derive") then derive_of words
+    else if bytes_eq name (codes "update") then update_of words
     else None

@@ -2,8 +2,8 @@
 ghost use Rattle.std.specs.Prelude.{◌≡◌};
 ghost use Rattle.def_descriptor_answer.specs.Status.{code_of};
 
-/// How a call of `msat-descriptor` ended. `Done`, `Usage`, `Refused` and `Unfit` are answers to the words, with a report; the
-/// others come of a fault and of want of memory.
+/// How a call of `msat-descriptor` ended. `Done`, `Usage`, `Refused`, `PsbtRefused`, `Unfit` and `NoInput` are answers to
+/// the words and the source, with a report; the others come of a fault and of want of memory.
 #[derive(Clone, Copy, Debug, PartialEq, Eq)]
 pub enum Status {
     /// What was asked for was written.
@@ -12,8 +12,14 @@ pub enum Status {
     Usage,
     /// The text is no descriptor, or it doesn't give what was asked for.
     Refused,
+    /// The source holds no PSBT, or one with a pair that bars what the descriptor says.
+    PsbtRefused,
     /// The descriptor has no sane tree at branch 0 and index 0.
     Unfit,
+    /// The PSBT was written, and no input of it is of the descriptor.
+    NoInput,
+    /// A read of the source failed, and nothing was written.
+    ReadFault,
     /// The sink failed, and has a front of the report.
     WriteFault,
     /// Memory was wanting, and nothing was written.
@@ -29,7 +35,10 @@ impl Status {
             Status::Done => 0,
             Status::Usage => 1,
             Status::Refused => 2,
+            Status::PsbtRefused => 3,
             Status::Unfit => 4,
+            Status::NoInput => 4,
+            Status::ReadFault => 5,
             Status::WriteFault => 6,
             Status::Memory => 7,
         }

@@ -1,10 +1,10 @@
 -- There are as many answers as lines.
 use Rattle.std.proofs.Common.{ℕ, ◌≡◌, ◌<◌, ◌==◌, ◌⊎◌, inl, inr, Bool, true, false, List, [], ◌∷◌, ◌++◌, Some, append_assoc, refl, sym, ◌∙◌, ap, subst, arith}
-use Rattle.std.specs.Prelude.{◌^◌, ◌&&◌, nat_le, nat_lt, if◌then◌else◌, codes, length, Option, None, option_map}
+use Rattle.std.specs.Prelude.{◌^◌, ◌&&◌, nat_le, nat_lt, if◌then◌else◌, codes, length, Option, None, option_map, option_and_then}
 use Rattle.std.specs.List.{list_all}
 use Rattle.std.proofs.lemmas.Bool.{and_parts, leb-true, ne_eqb}
 use Rattle.serde_json.specs.Data.{Data, null, boolean, number, string, array, object, unsigned, negative, float}
-use Rattle.serde_json.specs.Find.{get}
+use Rattle.serde_json.specs.Find.{get, as_number, as_str, as_u64}
 use Rattle.def_script.specs.Bytes.{Bytes}
 use Rattle.def_files.specs.Json.{reading, is_object}
 use Rattle.def_lines.specs.declared.LineFault.{LineFault}
@@ -13,8 +13,8 @@ use Rattle.def_lines.specs.declared.Part.TheVariants as part
 use Rattle.def_lines.specs.Lines.{cut, cut_before, last_line, lines, LF, Cut}
 use Rattle.def_lines.specs.Question.{Id, whole, text, Line, asks, refused, is_plain, id_in, told_id, told_words, told_source, with_id, line_read, line_of, id_told, MOST_LINE, MOST_ID, MOST_ID_LENGTH}
 use Rattle.def_lines.specs.Answer.{answer_line, fault_line, REFUSED, NO_MEMORY}
-use Rattle.def_lines.specs.Answers.{AnswersOf, Answers, LacksMemory, AnswersLine, AnswersEach}
-use Rattle.def_lines.specs.Laws.{is_reported, ReportsTextsPlainly, AreToldBy, One}
+use Rattle.def_lines.specs.Answers.{AnswersOf, Answers, LacksMemory, AnswersEach}
+use Rattle.def_lines.specs.Laws.{is_reported, ReportsTextsPlainly, IsReply, IsLack, Replies, AreToldBy, One, ReadsReplies}
 use Rattle.def_lines.proofs.Lists.{to_all}
 use Rattle.def_lines.proofs.Texts.{IsLow}
 use Rattle.def_lines.proofs.Strings.{AsksText, line_asks}
@@ -78,10 +78,11 @@ line_again line = if_again (nat_lt MOST_LINE (length line)) _ _ tt (read_again (
 
 -- ---- what an answer says
 
-record IsSaid (answer : Bytes) : Type 0 where
+record IsSaid (IsAnswer : AnswersOf) (line : Line) (answer : Bytes) : Type 0 where
   id : Option Id
   status : ℕ
   report : Bytes
+  replies : IsReply IsAnswer line id status report ⊎ IsLack line id status report
   is : answer ≡ answer_line id status report
   again : IsReread id
   small : status < 2 ^ 64
@@ -96,18 +97,45 @@ fault_plain (fault.Shape part.Words) = refl
 fault_plain (fault.Shape part.Source) = refl
 
 said : (IsAnswer : AnswersOf) → ReportsTextsPlainly IsAnswer → (line : Line) (answer : Bytes) → IsReread (id_told line) → AsksText line
-    → Answers IsAnswer line answer ⊎ LacksMemory line answer → IsSaid answer
+    → Answers IsAnswer line answer ⊎ LacksMemory line answer → IsSaid IsAnswer line answer
 said IsAnswer plain (asks id words source) answer again low (inl (status, report, answers, e)) =
     let fits = plain words source status report (to_all IsLow source low) answers in
-    record { id = id; status = status; report = report; is = e; again = again; small = fits.0; plain = fits.1 }
+    record {
+      id = id;
+      status = status;
+      report = report;
+      replies = inl (refl, answers);
+      is = e;
+      again = again;
+      small = fits.0;
+      plain = fits.1;
+    }
 said IsAnswer plain (refused id fault) answer again low (inl e) =
-    record { id = id; status = REFUSED; report = fault_line fault; is = e; again = again; small = omega arith; plain = fault_plain fault }
+    record {
+      id = id;
+      status = REFUSED;
+      report = fault_line fault;
+      replies = inl (refl, refl, refl);
+      is = e;
+      again = again;
+      small = omega arith;
+      plain = fault_plain fault;
+    }
 said IsAnswer plain line answer again low (inr (id, from, e)) =
     let known : IsReread id = elim from [
       | inl none ↦ subst IsReread (sym none) tt
       | inr same ↦ subst IsReread (sym same) again
     ] in
-    record { id = id; status = NO_MEMORY; report = []; is = e; again = known; small = omega arith; plain = refl }
+    record {
+      id = id;
+      status = NO_MEMORY;
+      report = [];
+      replies = inr (from, refl, refl);
+      is = e;
+      again = known;
+      small = omega arith;
+      plain = refl;
+    }
 
 -- ---- lines of answers
 
@@ -137,10 +165,11 @@ told_each IsAnswer plain (line ∷ ls) answers (answer, rests, one, more, e) =
     ∙ one_line body rests (shown_line it.id it.status it.report it.again it.small it.plain) in
     subst (AreToldBy IsAnswer (line ∷ ls)) (sym parts) (
       record {
-        answers = subst (AnswersLine IsAnswer line) whole_is one;
         id = it.id;
         status = it.status;
         report = it.report;
+        replies = it.replies;
+        written = sym (answer_is it.id it.status it.report);
         back = told_back it.id it.status it.report it.again it.small it.plain;
       },
       told_each IsAnswer plain ls rests more,
@@ -148,3 +177,27 @@ told_each IsAnswer plain (line ∷ ls) answers (answer, rests, one, more, e) =
 
 pub one_each : (IsAnswer : AnswersOf) → ReportsTextsPlainly IsAnswer → One IsAnswer
 one_each IsAnswer plain source answers all = told_each IsAnswer plain (lines source) answers all
+
+-- ---- what is read of an answer is what was written
+
+value_of : (o : Option Data) (d e : Data) → o ≡ Some d → o ≡ Some e → d ≡ e
+value_of o d e p q = cc
+
+abbrev status_in : Data → Option ℕ
+status_in value = option_and_then as_u64 (option_and_then as_number (get (codes "status") value))
+
+abbrev report_in : Data → Option Bytes
+report_in value = option_and_then as_str (get (codes "report") value)
+
+same_of : {A : Type 0} (f : Data → Option A) (d e : Data) (x y : A) → d ≡ e → f d ≡ Some x → f e ≡ Some y → x ≡ y
+same_of f d e x y same p q = let both = sym p ∙ ap f same ∙ q in cc
+
+pub read_back : (IsAnswer : AnswersOf) → ReadsReplies IsAnswer
+read_back IsAnswer line answer id status report told back =
+    let same = value_of (reading answer) told.back.value back.value told.back.read back.read in
+    let id_is = same_of (λ d. told_id (get (codes "id") d)) told.back.value back.value told.id id same told.back.told back.told in
+    let status_is = same_of status_in told.back.value back.value told.status status same told.back.status_is back.status_is in
+    let report_is = same_of report_in told.back.value back.value told.report report same told.back.report_is back.report_is in
+    subst (λ report. Replies IsAnswer line id status report) report_is
+    (subst (λ status. Replies IsAnswer line id status told.report) status_is
+    (subst (λ id. Replies IsAnswer line id told.status told.report) id_is told.replies))

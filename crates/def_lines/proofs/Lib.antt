@@ -6,3 +6,4 @@ pub mod Told
 pub mod Texts
 pub mod Strings
 pub mod Counted
+pub mod Answered

@@ -6,6 +6,8 @@ use Rattle.def_lines.specs.declared.LineFault.TheVariants as fault
 use Rattle.def_lines.specs.Lines.{cut, lines}
 use Rattle.def_lines.specs.Question.{whole, text, Line, asks, refused, line_of}
 use Rattle.def_lines.specs.Answer.{answer_line, fault_line, REFUSED, NO_MEMORY}
+use Rattle.def_lines.specs.Answers.{AnswersOf}
+use Rattle.def_lines.specs.Laws.{IsToldBy}
 
 -- ---- lines
 
@@ -192,3 +194,34 @@ Refusals =
     ≡ codes "{\"id\":1,\"status\":12,\"report\":\"refused line Shape words\\n\"}\n")
     × (answer_line (Some (text (codes "x"))) REFUSED (fault_line (fault.Shape part.Source))
     ≡ codes "{\"id\":\"x\",\"status\":12,\"report\":\"refused line Shape source\\n\"}\n")
+
+-- ---- answers that answer
+
+-- a program that answers everything with 3 and `x`
+abbrev pub always_three : AnswersOf
+always_three words source status report = (status ≡ 3) × (report ≡ codes "x\n")
+
+-- the answer of this program to a question with an id
+abbrev pub asks_three : Bytes
+asks_three = codes "{\"id\":1,\"words\":[]}"
+
+abbrev pub TellsThree : Type 0
+TellsThree = IsToldBy always_three asks_three (codes "{\"id\":1,\"status\":3,\"report\":\"x\\n\"}")
+
+-- and no line with another id, status or report answers the question
+abbrev pub Answered : (line answer : Bytes) → Type 0
+Answered line answer = IsToldBy always_three line answer
+
+abbrev pub OthersThanTheirs : Type 0
+OthersThanTheirs =
+    (¬ Answered asks_three (codes "{\"id\":2,\"status\":3,\"report\":\"x\\n\"}"))
+    × (¬ Answered asks_three (codes "{\"status\":3,\"report\":\"x\\n\"}"))
+    × (¬ Answered asks_three (codes "{\"id\":1,\"status\":4,\"report\":\"x\\n\"}"))
+    × (¬ Answered asks_three (codes "{\"id\":1,\"status\":3,\"report\":\"y\\n\"}"))
+
+-- so of a line that is no question
+abbrev pub OthersThanRefusals : Type 0
+OthersThanRefusals =
+    (¬ Answered (codes "[]") (codes "{\"id\":1,\"status\":12,\"report\":\"refused line Shape line\\n\"}"))
+    × (¬ Answered (codes "[]") (codes "{\"status\":3,\"report\":\"refused line Shape line\\n\"}"))
+    × (¬ Answered (codes "[]") (codes "{\"status\":12,\"report\":\"refused line NotJson\\n\"}"))

@@ -26,6 +26,9 @@ ghost use Rattle.def_lines.specs.Examples.{
   WithIds,
   NoMemory,
   Refusals,
+  TellsThree,
+  OthersThanTheirs,
+  OthersThanRefusals,
 };
 
 /// How bytes are cut into lines.
@@ -67,4 +70,11 @@ pub fn answer_lines()
     ensures with_ids { WithIds }
     ensures no_memory { NoMemory }
     ensures refused { Refusals }
+{}
+
+/// Which lines answer a line, and that others don't.
+pub fn answered()
+    ensures told { TellsThree }
+    ensures others { OthersThanTheirs }
+    ensures refused { OthersThanRefusals }
 {}

@@ -4,8 +4,6 @@ use Rattle.std.specs.Prelude.{Option, List}
 use Rattle.std.specs.Option.{option_map}
 use Rattle.def_script.specs.Bytes.{Bytes}
 use Rattle.def_descriptor_answer.specs.Words.{Command, command_of}
-use Rattle.def_descriptor_answer.specs.Reply.{Reply}
-use Rattle.def_descriptor_answer.specs.Answer.{RepliesToCommand, RepliesToWords}
 use Rattle.def_descriptor_answer.specs.Laws.{AskUtf8}
 use Rattle.descriptor_cli.specs.declared.words.Command.{Command as Asked}
 use Rattle.descriptor_cli.specs.Scaffolding.Steps.{seen, IsAsked}
@@ -15,9 +13,6 @@ asks words o command e is = subst (λ (z : Option Asked). option_map seen z ≡ 
 
 pub asks_nothing : (words : List Bytes) (o : Option Asked) → option_map seen o ≡ command_of words → o ≡ None → command_of words ≡ None
 asks_nothing words o e is = sym (subst (λ (z : Option Asked). option_map seen z ≡ command_of words) is e)
-
-pub replied : (words : List Bytes) (command : Asked) (r : Reply) → Some (seen command) ≡ command_of words → RepliesToCommand (seen command) r → RepliesToWords (command_of words) r
-replied words command r e h = subst (λ (z : Option Command). RepliesToWords z r) e h
 
 pub asks_something : (words : List Bytes) (command : Command) → Some command ≡ command_of words → command_of words ≢ None
 asks_something words command e none = cc

@@ -1,9 +1,9 @@
-//! The words of the command line: `check D`, and `derive [--testnet or --regtest] [--branch B] D INDEX [COUNT]`.
+//! The words of the command line: `check D`, `derive [--testnet or --regtest] [--branch B] D INDEX [COUNT]`, and `update D COUNT`.
 
 ghost use Rattle.std.specs.Prelude.{◌≡◌, ◌+◌, ◌-◌, ◌≤◌, Some, IfSome};
 ghost use Rattle.std.specs.Option.{option_map};
 ghost use Rattle.def_descriptor.specs.Steps.{HARDENED};
-ghost use Rattle.def_descriptor_answer.specs.Words.{number_in as the_number_in, span_by as the_span_by, span_of as the_span_of, text_and_span as the_text_and_span, behind_branch as the_behind_branch, behind_network as the_behind_network, derive_of, check_of, command_of};
+ghost use Rattle.def_descriptor_answer.specs.Words.{number_in as the_number_in, span_by as the_span_by, span_of as the_span_of, text_and_span as the_text_and_span, behind_branch as the_behind_branch, behind_network as the_behind_network, derive_of, check_of, update_of, command_of};
 ghost use Rattle.descriptor_cli.specs.Scaffolding.Steps.{seen, IsAsked, span_at};
 
 use def_address::Network;
@@ -27,6 +27,8 @@ pub enum Command<'a> {
     Check(&'a str),
     /// What it gives.
     Derive(Derivation<'a>),
+    /// A PSBT with what it says of the indices below a count.
+    Update(&'a str, u32),
 }
 
 /// What the words ask, or `None` exactly where they ask nothing. Takes no memory.
@@ -43,7 +45,24 @@ pub fn read_words(words: &[Word]) -> Option<Command<'_>>
     if name.as_str() == "derive" {
         return derive_words(rest);
     }
+    if name.as_str() == "update" {
+        return update_words(rest);
+    }
     None
+}
+
+/// What the words behind `update` ask.
+fn update_words(words: &[Word]) -> Option<Command<'_>>
+    ensures asked { option_map seen result ≡ update_of words.now }
+    ensures form { IfSome result IsAsked }
+{
+    match words {
+        [text, count] => {
+            let count = number_in(count, 1, MOST_COUNT)?;
+            Some(Command::Update(text.as_str(), count as u32))
+        }
+        _ => None,
+    }
 }
 
 /// What the words behind `check` ask.

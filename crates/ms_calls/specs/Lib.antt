@@ -13,3 +13,4 @@ pub mod Asked
 pub mod Ran
 pub mod Audited
 pub mod Demanded
+pub mod Curve

@@ -1,4 +1,5 @@
-//! What a program in another language asks of `msat`, as calls over plain bytes and numbers.
+//! What a program in another language asks of `msat`, of a signature and of a key (SEC 1, SEC 2), as calls over plain bytes and
+//! numbers.
 #![tactic(auto)]
 
 pub use answering::{NO_MEMORY, UNREADABLE, answer};
@@ -6,9 +7,11 @@ pub use auditing::audit;
 pub use copying::{write_lengths, write_over};
 pub use facts::Facts;
 pub use holding::satisfy;
+pub use judging::signature;
 pub use ms_lines::ByteSink;
 pub use outcome::{PlacedStep, RunOutcome};
 pub use planning::plan;
+pub use pointing::point;
 pub use policies::policy;
 pub use readings::decode;
 pub use reason::Reason;
@@ -24,8 +27,10 @@ mod copying;
 mod facts;
 mod holding;
 mod items;
+mod judging;
 mod outcome;
 mod planning;
+mod pointing;
 mod policies;
 mod readings;
 mod reason;

@@ -40,7 +40,7 @@ fn push_steps(report: &mut Vec<u8>, steps: &[u32]) -> Result<(), AllocError>
 }
 
 /// The fingerprint of a key as it stands in a descriptor.
-fn own_print(named: &Named) -> [u8; 4]
+pub fn own_print(named: &Named) -> [u8; 4]
     ensures { result ≡ the_own_print (named_at named.now) }
 {
     let hash = match named {

@@ -3,8 +3,11 @@
 
 pub use asked::Derivation;
 pub use checking::check_reply;
+pub use judging::{Place, place_at};
 pub use listing::derive_reply;
-pub use reply::Reply;
+pub use measures::Measures;
+pub use reasons::push_refused_line;
+pub use reply::{Reply, refused};
 
 mod asked;
 mod checking;

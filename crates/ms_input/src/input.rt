@@ -49,7 +49,7 @@ use signing::{known_amount, signed_hash};
 use std::alloc::{AllocError, Global};
 use std::marker::Model;
 pub use verifying::Verifying;
-use verifying::{settled_by, verification_of, words_of};
+use verifying::{asked_hash, settled_by, verification_of, words_of};
 
 mod gathering;
 mod scripts;
@@ -69,6 +69,8 @@ pub struct Input<'p, 't> {
     amount: Amount,
     kind: Kind,
     script: ScriptCode<'p>,
+    /// What a signature of the asked type signs, where signatures are judged, there is a Script and that is a hash type.
+    asked_hash: Option<[u8; 32]>,
     settled: Settled<'t>,
 }
 
@@ -84,7 +86,7 @@ impl<'p, 't> Model for Input<'p, 't> {
 
     ghost view = { λ i. record { spend = spend_at i.verification i.psbt.now i.number; tree = i.settled.tree } };
 
-    ghost invariant = { λ i. IsRead i.verification i.psbt.now i.number i.input i.fields i.amount i.kind (code_seen i.script) i.settled };
+    ghost invariant = { λ i. IsRead i.verification i.psbt.now i.number i.input i.fields i.amount i.kind (code_seen i.script) i.asked_hash i.settled };
 }
 
 impl<'p, 't> Input<'p, 't> {
@@ -122,7 +124,8 @@ impl<'p, 't> Input<'p, 't> {
             sequence: input.sequence(),
             locktime: transaction.lock_time(),
         };
-        let settled = settled_by(alloc, arena, &input, &fields, &spent, locks, verifying)?;
+        let asked_hash = asked_hash(verifying, &input, &fields, &spent);
+        let settled = settled_by(alloc, arena, &fields, &spent, locks, verifying, &asked_hash)?;
         Ok(Input {
             verification: verification_of(verifying),
             psbt,
@@ -132,6 +135,7 @@ impl<'p, 't> Input<'p, 't> {
             amount: spent.amount,
             kind: spent.kind,
             script: script_or_none(&spent.script),
+            asked_hash,
             settled,
         })
     }
@@ -299,8 +303,37 @@ impl<'p, 't> Input<'p, 't> {
     }
 
     /// What a signature of the hash type with this number signs, or `None` exactly where it is none: by what all signatures of
-    /// the transaction share, and the bytes of its output with the input's number, where there is one. Takes no memory.
+    /// the transaction share, and the bytes of its output with the input's number, where there is one. That of the asked type isn't made
+    /// again where signatures were judged. Takes no memory.
     pub fn hash_by(
+        &self,
+        shared: &SharedHashes,
+        output: Option<&[u8]>,
+        number: u32,
+    ) -> Option<[u8; 32]>
+        requires shared { shared.now ≡ shared_of self.now.spend.transaction }
+        requires output { IsOutputText (slice_get self.now.spend.transaction.outputs self.now.spend.number) output }
+        ensures { result ≡ the_hash_by number self.now.spend }
+    {
+        match self.kept_hash(number) {
+            Some(hash) => Some(hash),
+            None => self.made_hash(shared, output, number),
+        }
+    }
+
+    // The hash that was made for the judgements, where it is that of the type with this number.
+    fn kept_hash(&self, number: u32) -> Option<[u8; 32]>
+        ensures { IfSome result (λ hash. Some hash ≡ the_hash_by number self.now.spend) }
+    {
+        if number == self.asked_type() {
+            self.asked_hash
+        } else {
+            None
+        }
+    }
+
+    // The hash, made anew.
+    fn made_hash(
         &self,
         shared: &SharedHashes,
         output: Option<&[u8]>,

@@ -8,7 +8,7 @@ pub fn plain()
     ensures { ReportsPlainly msat_answers }
 {}
 
-/// There are as many answers as lines, and each is a line of JSON that tells its status, its report and its id.
+/// There are as many answers as lines, and each is a line of JSON that tells the status, the report and the id of what answers its line.
 pub fn one()
     ensures { One msat_answers }
 {}

@@ -86,13 +86,19 @@ behind_shorter bytes line rest first =
     let e : length bytes ≡ length line + suc (length rest) = ap length first.whole ∙ length-append line (LF ∷ rest) in omega (arith, e)
 
 -- a report whose first line feed is written as JSON has it
-pub line_escaped : (report line rest : Bytes) → IsFirstLine report line rest → escaped report ≡ (line ++ codes "\\n" ++ []) ++ escaped rest
+pub line_escaped : (report line rest : Bytes) → IsFirstLine report line rest → escaped report ≡ (line ++ codes "\\n") ++ escaped rest
 unfolding escaped
 line_escaped report line rest first =
     ap escaped first.whole ∙ free_escaped line (LF ∷ rest) first.free
-    ∙ sym (append_assoc line (codes "\\n") (escaped rest)) ∙ ap (λ l. l ++ escaped rest) (sym (append-nil (line ++ codes "\\n")))
+    ∙ sym (append_assoc line (codes "\\n") (escaped rest))
 
 -- one without a line feed
 pub rest_escaped : (report : Bytes) → HasNoFeed report → escaped report ≡ report
 unfolding escaped
 rest_escaped report free = ap escaped (sym (append-nil report)) ∙ free_escaped report [] free ∙ append-nil report
+
+-- none is left
+pub none_left : (rest : Bytes) (b : Bool) → b ≡ (length rest == 0) → b ≡ true → escaped rest ≡ []
+unfolding escaped
+none_left [] b is so = refl
+none_left (byte ∷ rest) b is so = absurd (let none : length (byte ∷ rest) ≡ 0 = eqb-true _ 0 (sym is ∙ so) in omega (arith, none))

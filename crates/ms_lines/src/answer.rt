@@ -7,7 +7,7 @@ ghost use Rattle.ms_lines.specs.Through.{PassesOrFails};
 
 use crate::feeds::first_line;
 use crate::question::Id;
-use crate::through::{put, put_three};
+use crate::through::{put, put_three, put_two};
 use itoa::Buffer;
 use ms_io::{Sink, SinkFailed};
 
@@ -52,8 +52,11 @@ fn put_escaped<K: Sink>(sink: &mut K, held: &mut Vec<u8>, report: &[u8]) -> Resu
 {
     let mut rest = report;
     while let Some((line, after)) = first_line(rest) {
-        put_three(sink, held, line, b"\\n", b"")?;
+        put_two(sink, held, line, b"\\n")?;
         rest = after;
+    }
+    if rest.is_empty() {
+        return Ok(());
     }
     put(sink, held, rest)
 }

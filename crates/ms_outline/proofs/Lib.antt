@@ -5,3 +5,4 @@ mod Tried
 mod Families
 mod Trying
 mod Fitted
+pub mod Some

@@ -17,7 +17,7 @@ ghost use Rattle.ms_outline.specs.Scaffolding.Fitting.{the_fit, fit_text};
 use crate::family::Family;
 use crate::heads::letter as wrapper_name;
 use crate::node_at::node_at;
-use ms_print::print_number;
+use crate::number::push_number;
 use ms_text::TextTree;
 use ms_tree::{Tree, Wrapper};
 use ms_types::{CorrectnessType, Letter, correctness_of_letter, count_wrong, passes_with};
@@ -47,24 +47,19 @@ pub fn push_fit(
 {
     let tree = node_at(text.tree(), node);
     match first_fit(alloc, text.offsets.as_slice(), tree, node)? {
-        Some(fit) => push_line(
-            alloc,
-            report,
-            letter_name(fit.letter),
-            text.offset(fit.child),
-        ),
+        Some(fit) => push_line(report, letter_name(fit.letter), text.offset(fit.child)),
         None => Ok(()),
     }
 }
 
 /// Adds the line of a letter and a place.
-fn push_line(alloc: Global, report: &mut String, letter: &str, at: u32) -> Result<(), AllocError>
+fn push_line(report: &mut String, letter: &str, at: u32) -> Result<(), AllocError>
     ensures { OnOk result (string_bytes report.new ≡ string_bytes report.old ++ fit_text letter.now at) }
 {
     report.push_str("fits ")?;
     report.push_str(letter)?;
     report.push_str(" at ")?;
-    print_number(alloc, report, at as u64)?;
+    push_number(report, at as u64)?;
     report.push_str("\n")
 }
 

@@ -9,8 +9,9 @@ ghost use Rattle.def_tree.specs.Tree as model;
 ghost use Rattle.def_answer.specs.Outline.{head_text};
 ghost use Rattle.ms_tree.specs.Shape.{shape, leaf_shape};
 
+use crate::number::push_number;
 use def_tree::{Two, Wrapper};
-use ms_print::{name_of_hash, print_number};
+use ms_print::name_of_hash;
 use ms_tree::{Key, Leaf, Tree, View};
 use std::alloc::{AllocError, Global};
 
@@ -23,7 +24,7 @@ pub fn push_head(alloc: Global, report: &mut String, tree: &Tree<'_>) -> Result<
         View::Leaf(leaf) => push_leaf(alloc, report, leaf),
         View::AndOr(..) => report.push_str("andor"),
         View::Two(kind, ..) => report.push_str(two_word(kind)),
-        View::Thresh(k, _) => push_count(alloc, report, "thresh ", k),
+        View::Thresh(k, _) => push_count(report, "thresh ", k),
         View::Multi(k, keys) => push_multi(alloc, report, k, keys),
         View::Wrap(wrapper, _) => report.push_str(letter(wrapper)),
     }
@@ -37,8 +38,8 @@ fn push_leaf(alloc: Global, report: &mut String, leaf: Leaf) -> Result<(), Alloc
         Leaf::One => report.push_str("1"),
         Leaf::PkK(key) => push_bytes(alloc, report, "pk_k", key.as_bytes()),
         Leaf::PkH(key) => push_bytes(alloc, report, "pk_h", key.as_bytes()),
-        Leaf::Older(n) => push_count(alloc, report, "older ", n),
-        Leaf::After(n) => push_count(alloc, report, "after ", n),
+        Leaf::Older(n) => push_count(report, "older ", n),
+        Leaf::After(n) => push_count(report, "after ", n),
         Leaf::Hash(value) => {
             push_bytes(alloc, report, name_of_hash(value.kind()), value.as_bytes())
         }
@@ -46,11 +47,11 @@ fn push_leaf(alloc: Global, report: &mut String, leaf: Leaf) -> Result<(), Alloc
 }
 
 /// Adds a name and a number.
-fn push_count(alloc: Global, report: &mut String, name: &str, n: u64) -> Result<(), AllocError>
+fn push_count(report: &mut String, name: &str, n: u64) -> Result<(), AllocError>
     ensures { OnOk result (string_bytes report.new ≡ string_bytes report.old ++ (name.now ++ decimal n)) }
 {
     report.push_str(name)?;
-    print_number(alloc, report, n)
+    push_number(report, n)
 }
 
 /// Adds a name and, behind a space, bytes in lower-case digits.
@@ -71,7 +72,7 @@ fn push_bytes(
 fn push_multi(alloc: Global, report: &mut String, k: u64, keys: &[Key]) -> Result<(), AllocError>
     ensures { OnOk result (string_bytes report.new ≡ string_bytes report.old ++ head_text (model.multi k keys.now)) }
 {
-    push_count(alloc, report, "multi ", k)?;
+    push_count(report, "multi ", k)?;
     for key in keys {
         push_bytes(alloc, report, "", key.as_bytes())?;
     }

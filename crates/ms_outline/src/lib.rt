@@ -10,5 +10,6 @@ mod fits;
 mod heads;
 mod letters;
 mod node_at;
+mod number;
 mod outline;
 mod types;

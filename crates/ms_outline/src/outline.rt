@@ -1,5 +1,5 @@
 //! The lines of a tree's nodes: a node before its children, and these left to right.
-ghost use Rattle.std.specs.Prelude.{◌≡◌, ◌+◌, ◌<◌, ◌≤◌, ◌^◌, ◌++◌, flat_map, length, slice_get, All, OnOk, Option, Some};
+ghost use Rattle.std.specs.Prelude.{◌≡◌, ◌+◌, ◌-◌, ◌<◌, ◌≤◌, ◌^◌, ◌++◌, flat_map, length, slice_get, All, OnOk, Option, Some};
 ghost use Rattle.std.specs.String.{string_bytes};
 ghost use Rattle.def_tree.specs.InRange.{IsInRange, depth as depth_of_tree, depth_of};
 ghost use Rattle.def_tree.specs.Nodes.{all_nodes, nodes_of_all};
@@ -12,8 +12,8 @@ ghost use Rattle.ms_tree.specs.Shape.{shape, shapes};
 ghost use Rattle.ms_outline.specs.Scaffolding.Typed.{AreTypesOf, StandTold, told_type};
 
 use crate::heads::push_head;
+use crate::number::push_number;
 use crate::types::{NodeTypes, push_type};
-use ms_print::print_number;
 use ms_text::TextTree;
 use ms_tree::{Tree, View};
 use std::alloc::{AllocError, Global};
@@ -30,18 +30,21 @@ pub fn push_outline(
     ensures { OnOk result (string_bytes report.new ≡ string_bytes report.old ++ outline_report text.now.offsets.items (shape text.now.tree)) }
 {
     let types = NodeTypes::new(alloc, text.tree())?;
+    let tree = text.tree();
+    let root = tree.nodes() - 1;
     push_tree(
         alloc,
         report,
         text.offsets.as_slice(),
         &types,
-        text.tree(),
+        tree,
         0,
+        root,
         0,
     )
 }
 
-/// Adds the lines of a tree at a depth, whose nodes have the numbers from `first` on.
+/// Adds the lines of a tree at a depth, whose nodes have the numbers from `first` to `own`, which is the root's.
 #[cycle(push_tree)]
 fn push_tree(
     alloc: Global,
@@ -50,6 +53,7 @@ fn push_tree(
     types: &NodeTypes,
     tree: &Tree<'_>,
     first: u32,
+    own: u32,
     depth: u32,
 ) -> Result<(), AllocError>
     requires range { IsInRange (shape tree.now) }
@@ -57,35 +61,55 @@ fn push_tree(
     requires places { first + nodes (shape tree.now) ≤ length offsets.now }
     requires room { depth + depth_of_tree (shape tree.now) < 2 ^ 32 }
     requires numbers { first + nodes (shape tree.now) < 2 ^ 32 }
+    requires own { own ≡ first + (nodes (shape tree.now) - 1) }
     ensures { OnOk result (string_bytes report.new ≡ string_bytes report.old ++ flat_map (node_line offsets.now) (outline first depth (shape tree.now))) }
 {
-    let own = first + (tree.nodes() - 1);
     push_node(alloc, report, offsets, types, tree, own, depth)?;
     match tree.view() {
         View::Leaf(_) | View::Multi(..) => Ok(()),
         View::AndOr(x, y, z) => {
             let second = first + x.nodes();
             let third = second + y.nodes();
-            push_tree(alloc, report, offsets, types, x, first, depth + 1)?;
-            push_tree(alloc, report, offsets, types, y, second, depth + 1)?;
-            push_tree(alloc, report, offsets, types, z, third, depth + 1)
-        }
-        View::Two(_, x, y) => {
-            push_tree(alloc, report, offsets, types, x, first, depth + 1)?;
+            push_tree(
+                alloc,
+                report,
+                offsets,
+                types,
+                x,
+                first,
+                second - 1,
+                depth + 1,
+            )?;
             push_tree(
                 alloc,
                 report,
                 offsets,
                 types,
                 y,
-                first + x.nodes(),
+                second,
+                third - 1,
                 depth + 1,
-            )
+            )?;
+            push_tree(alloc, report, offsets, types, z, third, own - 1, depth + 1)
+        }
+        View::Two(_, x, y) => {
+            let second = first + x.nodes();
+            push_tree(
+                alloc,
+                report,
+                offsets,
+                types,
+                x,
+                first,
+                second - 1,
+                depth + 1,
+            )?;
+            push_tree(alloc, report, offsets, types, y, second, own - 1, depth + 1)
         }
         View::Thresh(_, children) => {
             push_trees(alloc, report, offsets, types, children, first, depth + 1)
         }
-        View::Wrap(_, x) => push_tree(alloc, report, offsets, types, x, first, depth + 1),
+        View::Wrap(_, x) => push_tree(alloc, report, offsets, types, x, first, own - 1, depth + 1),
     }
 }
 
@@ -109,8 +133,9 @@ fn push_trees(
 {
     let mut next = first;
     for tree in trees {
-        push_tree(alloc, report, offsets, types, tree, next, depth)?;
-        next += tree.nodes();
+        let behind = next + tree.nodes();
+        push_tree(alloc, report, offsets, types, tree, next, behind - 1, depth)?;
+        next = behind;
     }
     Ok(())
 }
@@ -132,9 +157,9 @@ fn push_node(
 {
     let at = own as usize;
     report.push_str("node ")?;
-    print_number(alloc, report, offsets[at] as u64)?;
+    push_number(report, offsets[at] as u64)?;
     report.push_str(" ")?;
-    print_number(alloc, report, depth as u64)?;
+    push_number(report, depth as u64)?;
     report.push_str(" ")?;
     push_type_at(report, types, at)?;
     report.push_str(" ")?;

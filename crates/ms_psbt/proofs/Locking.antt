@@ -11,6 +11,7 @@ use Rattle.ms_psbt.specs.declared.locks.Lock.{Lock}
 use Rattle.ms_psbt.specs.declared.locks.Lock.TheVariants as lock
 use Rattle.ms_psbt.specs.Scaffolding.Locks.{is_meant}
 use Rattle.ms_psbt.proofs.Fielding.{no_fault, none_between}
+use Rattle.ms_psbt.proofs.Finding.{or_assoc}
 
 -- the pair whose value was found
 pub record Found (forms : ℕ → Form) (type : ℕ) (value : Bytes) : Type 0 where
@@ -119,12 +120,16 @@ any_here p fields rest total is e = sym (ap (λ b. b || list_any p rest) is) ∙
 pub any_next : (p : Map → Bool) (fields : Map) (rest : List Map) (total : Bool) → p fields ≡ false → list_any p (fields ∷ rest) ≡ total → list_any p rest ≡ total
 any_next p fields rest total is e = sym (ap (λ b. b || list_any p rest) is) ∙ e
 
+pub locked_on : (old one new : Bool) (fields : Map) (rest : List Map) (total : Bool) → new ≡ (old || one) → one ≡ has_lock fields → (old || list_any has_lock (fields ∷ rest)) ≡ total
+    → (new || list_any has_lock rest) ≡ total
+locked_on old one new fields rest total is here h =
+    ap (λ (b : Bool). b || list_any has_lock rest) (is ∙ ap (λ (b : Bool). old || b) here) ∙ or_assoc old (has_lock fields) (list_any has_lock rest) ∙ h
+
 -- an input that has neither a time nor a height isn't meant
 pub no_lock : (which : Lock) (fields : Map) (at : ℕ) → place_of 0x11 0x12 at fields ≡ None → false ≡ is_meant which fields
 no_lock which fields at none = by_lock which
   where
     by_lock : (which : Lock) → false ≡ is_meant which fields
-    by_lock lock.Either = rw (none_between 0x11 0x12 0x11 at fields refl none, none_between 0x11 0x12 0x12 at fields refl none) refl
     by_lock lock.TimeAlone = rw (none_between 0x11 0x12 0x11 at fields refl none) refl
     by_lock lock.HeightAlone = rw (none_between 0x11 0x12 0x12 at fields refl none) refl
 

@@ -10,3 +10,4 @@ pub mod Maps
 pub mod Found
 pub mod Outlines
 pub mod Locks
+pub mod Inputs

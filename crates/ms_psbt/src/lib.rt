@@ -11,6 +11,7 @@ pub use source::{MAX_SOURCE_SIZE, PsbtBytes, has_magic, psbt_bytes};
 pub use stop::ReadStop;
 
 mod forms;
+mod inputs;
 mod listed;
 mod lists;
 mod locks;

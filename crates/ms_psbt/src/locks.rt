@@ -14,8 +14,6 @@ use crate::values::{has, number_or, place_in};
 /// Which inputs are meant.
 #[derive(Clone, Copy)]
 pub enum Lock {
-    /// Those with a time or a height.
-    Either,
     /// Those with a time alone.
     TimeAlone,
     /// Those with a height alone.
@@ -53,7 +51,6 @@ fn has_such_lock(lock: Lock, psbt: &[u8], from: usize) -> bool
     let time = has(psbt, from, 0x11);
     let height = has(psbt, from, 0x12);
     match lock {
-        Lock::Either => time || height,
         Lock::TimeAlone => time && !height,
         Lock::HeightAlone => height && !time,
     }
@@ -91,7 +88,8 @@ fn larger(first: u32, second: u32) -> u32
     if first < second { second } else { first }
 }
 
-fn either(first: bool, second: bool) -> bool
+/// Whether one of both holds.
+pub fn either(first: bool, second: bool) -> bool
     ensures { result ≡ (first || second) }
 {
     first || second

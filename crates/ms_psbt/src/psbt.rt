@@ -18,7 +18,7 @@ ghost use Rattle.ms_psbt.specs.Scaffolding.Maps.{Placed, InputsAt, OutputsAt};
 ghost use Rattle.ms_psbt.specs.Scaffolding.Outlines.{IsOutline};
 
 use crate::listed::MapKind;
-use crate::locks::{Lock, any_lock, unserved};
+use crate::locks::unserved;
 use crate::map::Pairs;
 use crate::maps::{map_end, maps_end};
 use crate::outline::{GLOBAL_PLACE, Outline, outline_at, version_in};
@@ -209,12 +209,17 @@ fn joined_transaction(
         → the_transaction_of (transaction_text (transaction_of_fields global.0 input_maps output_maps)) ≡ Some (transaction_of_fields global.0 input_maps output_maps)
         → ReadsOr (λ out. out.items) result (unless (the_unjoined Two at input_maps) (Ok (transaction_text (transaction_of_fields global.0 input_maps output_maps)))) }
 {
-    let is_locked = any_lock(Lock::Either, psbt, inputs);
-    let bytes = written_transaction(alloc, psbt, is_locked, inputs, outputs)?;
-    let wrong = unjoined(alloc, psbt, bytes.as_slice(), is_locked, inputs)?;
+    let written = written_transaction(alloc, psbt, inputs, outputs)?;
+    let wrong = unjoined(
+        alloc,
+        psbt,
+        written.bytes.as_slice(),
+        written.is_locked,
+        inputs,
+    )?;
     match wrong {
         Some(refusal) => Err(ReadStop::Refused(refusal)),
-        None => Ok(bytes),
+        None => Ok(written.bytes),
     }
 }
 

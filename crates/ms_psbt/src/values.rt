@@ -1,6 +1,6 @@
 //! Values of fields, by their types, in maps that were read.
 
-ghost use Rattle.std.specs.Prelude.{◌≡◌, ◌&&◌, nat_le, ℕ, [], ◌∷◌, length, is_some, Option, unwrap_or, Some, Ok, if◌then◌else◌};
+ghost use Rattle.std.specs.Prelude.{◌≡◌, ◌==◌, ◌&&◌, ◌||◌, nat_le, ℕ, [], ◌∷◌, length, is_some, Option, unwrap_or, Some, Ok};
 ghost use Rattle.std.specs.Int.{w32, w64, from_le_bytes};
 ghost use Rattle.def_script.specs.Bytes.{Bytes};
 ghost use Rattle.def_psbt.specs.Fields.{size_read, number_or as the_number_or};
@@ -9,7 +9,6 @@ ghost use Rattle.def_psbt.specs.Map.{Map, pair_of_type, value_of_type, has_types
 ghost use Rattle.def_psbt.specs.Part.{first_size as the_first_size};
 ghost use Rattle.def_psbt.specs.Reading.{map_at, place_of};
 ghost use Rattle.ms_psbt.specs.Seen.{IsPart};
-ghost use Rattle.ms_psbt.specs.Scaffolding.Found.{found_before};
 
 use crate::pairs::{pair_at, size_at};
 use crate::parts::first_size;
@@ -39,55 +38,6 @@ pub fn value_in(psbt: &[u8], from: usize, type_number: u64) -> Option<&[u8]>
     }
 }
 
-/// The values of the first pairs of three types in the map that begins at a place and is whole, by one walk over it.
-pub fn values_in(
-    psbt: &[u8],
-    from: usize,
-    first: u64,
-    second: u64,
-    third: u64,
-) -> (Option<&[u8]>, Option<&[u8]>, Option<&[u8]>)
-    ensures first { (forms : ℕ → Form) (map : Map × ℕ) → map_at forms psbt.now from ≡ Ok map → IsPart (λ value. value.now) result.0 (value_of_type first map.0) }
-    ensures second { (forms : ℕ → Form) (map : Map × ℕ) → map_at forms psbt.now from ≡ Ok map → IsPart (λ value. value.now) result.1 (value_of_type second map.0) }
-    ensures third { (forms : ℕ → Form) (map : Map × ℕ) → map_at forms psbt.now from ≡ Ok map → IsPart (λ value. value.now) result.2 (value_of_type third map.0) }
-{
-    if from > psbt.len() {
-        return (None, None, None);
-    }
-    let mut one = None;
-    let mut two = None;
-    let mut three = None;
-    let mut at = from;
-    loop {
-        let Ok((size, _)) = size_at(psbt, at) else {
-            return (one, two, three);
-        };
-        if size == 0 {
-            return (one, two, three);
-        }
-        let Ok((pair, next)) = pair_at(psbt, at) else {
-            return (one, two, three);
-        };
-        let key_type = pair.key_type();
-        one = found_or(one, key_type == first, pair.value());
-        two = found_or(two, key_type == second, pair.value());
-        three = found_or(three, key_type == third, pair.value());
-        at = next;
-    }
-}
-
-/// The value that was found before, or this one where it is one.
-#[inline(always)]
-fn found_or<'a>(found: Option<&'a [u8]>, is_one: bool, value: &'a [u8]) -> Option<&'a [u8]>
-    ensures { (later : Option Bytes) → found_before result later ≡ found_before found.entry (if is_one then Some value.entry.now else later) }
-{
-    match found {
-        Some(before) => Some(before),
-        None if is_one => Some(value),
-        None => None,
-    }
-}
-
 /// The place of the first pair whose type is between two, which count, in the map that begins at a place and is whole.
 pub fn place_in(psbt: &[u8], from: usize, first: u64, last: u64) -> Option<usize>
     ensures { (forms : ℕ → Form) (map : Map × ℕ) → map_at forms psbt.now from ≡ Ok map → result ≡ place_of first last from map.0 }
@@ -114,7 +64,8 @@ pub fn place_in(psbt: &[u8], from: usize, first: u64, last: u64) -> Option<usize
 }
 
 /// Whether a number is between two, which count.
-fn is_between(number: u64, first: u64, last: u64) -> bool
+#[inline(always)]
+pub fn is_between(number: u64, first: u64, last: u64) -> bool
     ensures { result ≡ (nat_le first number && nat_le number last) }
 {
     first <= number && number <= last
@@ -130,24 +81,45 @@ pub fn has(psbt: &[u8], from: usize, type_number: u64) -> bool
     }
 }
 
-/// Whether both types stand in the map that begins at a place and is whole.
+/// Whether both types stand in the map that begins at a place and is whole, by one walk over it.
 pub fn has_both(psbt: &[u8], from: usize, first: u64, second: u64) -> bool
     ensures { (forms : ℕ → Form) (map : Map × ℕ) → map_at forms psbt.now from ≡ Ok map → result ≡ has_types (first ∷ second ∷ []) map.0 }
 {
-    let (one, two, _) = values_in(psbt, from, first, second, second);
-    let has_first = is_there(one);
-    let has_second = is_there(two);
-    has_first && has_second
+    if from > psbt.len() {
+        return false;
+    }
+    let mut has_first = false;
+    let mut has_second = false;
+    let mut at = from;
+    loop {
+        let Ok((size, _)) = size_at(psbt, at) else {
+            return false;
+        };
+        if size == 0 {
+            return both(has_first, has_second);
+        }
+        let Ok((pair, next)) = pair_at(psbt, at) else {
+            return false;
+        };
+        let key_type = pair.key_type();
+        has_first = is_either(has_first, key_type, first);
+        has_second = is_either(has_second, key_type, second);
+        at = next;
+    }
 }
 
-/// Whether a value was found.
-fn is_there(value: Option<&[u8]>) -> bool
-    ensures { (reading : Option Bytes) → IsPart (λ value. value.now) value.entry reading → result ≡ is_some reading }
+/// Whether something holds, or a number is this one.
+#[inline(always)]
+fn is_either(holds: bool, number: u64, this: u64) -> bool
+    ensures { result ≡ (holds || number == this) }
 {
-    match value {
-        Some(_) => true,
-        None => false,
-    }
+    holds | (number == this)
+}
+
+fn both(first: bool, second: bool) -> bool
+    ensures { result ≡ (first && second) }
+{
+    first && second
 }
 
 /// The value of the first pair of a type in the map that begins at a place and is whole, or these bytes where there is none.

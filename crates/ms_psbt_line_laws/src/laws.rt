@@ -1,6 +1,6 @@
 //! What the definitions imply.
 
-ghost use Rattle.def_lines.specs.Laws.{Alone, One, ReportsTextsPlainly};
+ghost use Rattle.def_lines.specs.Laws.{Alone, One, ReadsReplies, ReportsTextsPlainly};
 ghost use Rattle.ms_psbt_line_laws.specs.Psbt.{psbt_answers};
 
 /// A file of questions may be cut at line feeds, and its parts be answered apart.
@@ -14,7 +14,12 @@ pub fn plain()
     ensures { ReportsTextsPlainly psbt_answers }
 {}
 
-/// There are as many answers as lines, and each is a line of JSON that tells its status, its report and its id.
+/// There are as many answers as lines, and each is a line of JSON that tells the status, the report and the id of what answers its line.
 pub fn one()
     ensures { One psbt_answers }
+{}
+
+/// Whoever reads an answer's line reads what answers its line.
+pub fn reads()
+    ensures { ReadsReplies psbt_answers }
 {}

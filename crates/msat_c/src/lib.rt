@@ -1,4 +1,4 @@
-//! The static library for C, with one export for each call of `ms_calls`, `ms_psbt_calls` and `ms_curve_calls`. `include/msat.h` declares them.
+//! The static library for C, with one export for each call of `ms_calls` and `ms_psbt_calls`. `include/msat.h` declares them.
 #![tactic(auto)]
 
 ghost use Rattle.std.specs.Prelude.{◌≡◌, ◌≢◌, ◌⊎◌, ◌↔◌, true, false, length, IsUtf8};
@@ -13,6 +13,7 @@ ghost use Rattle.ms_arrays.specs.ArrayRun.{run_arrays};
 ghost use Rattle.ms_calls.specs.Asked.{plan_given, asked_keys, asked_weight};
 ghost use Rattle.ms_calls.specs.Audited.{audit_by, audit_code, audited_outcome, audited_steps, canonical_after};
 ghost use Rattle.ms_calls.specs.Buffers.{written_over};
+ghost use Rattle.ms_calls.specs.Curve.{code_of as judgement_code, point_code, point_after, point_needed_after};
 ghost use Rattle.ms_calls.specs.Demanded.{policy_given, printed_given, keys_given};
 ghost use Rattle.ms_calls.specs.Ran.{HoldsOfRun, ran_by, run_code, ran_outcome, ran_checks};
 ghost use Rattle.ms_calls.specs.Readings.{are_keys, keys_in, TellsDecoded, HasNoReading};
@@ -22,8 +23,6 @@ ghost use Rattle.ms_calls.specs.TextReply.{bytes_after, bytes_needed_after, leng
 ghost use Rattle.ms_calls.specs.Version.{number_of, MAJOR, MINOR, PATCH};
 ghost use Rattle.ms_calls.specs.Lines.{HoldsOfLines};
 ghost use Rattle.ms_calls.specs.Words.{HoldsOfAnswer, AreNoWords};
-ghost use Rattle.ms_curve_calls.specs.Codes.{code_of as judgement_code, point_code};
-ghost use Rattle.ms_curve_calls.specs.Given.{point_after, needed_after as point_needed_after};
 ghost use Rattle.msat_lines.specs.Frame.{OtherAnswer};
 
 use ms_arrays::{Arrays, PlanArrays, RunArrays};
@@ -441,7 +440,7 @@ pub extern "C" fn msat_audit(
 pub extern "C" fn msat_signature(key: &[u8], hash: &[u8], sig: &[u8]) -> u32
     ensures { result ≡ judgement_code (judge key.now hash.now sig.now) }
 {
-    ms_curve_calls::signature(key, hash, sig)
+    ms_calls::signature(key, hash, sig)
 }
 
 /// The point of a key, as 65 bytes.
@@ -451,7 +450,7 @@ pub extern "C" fn msat_point(key: &[u8], point: &mut [u8], needed: &mut usize) -
     ensures point { point.new ≡ point_after point.old (point_bytes key.now) }
     ensures needed { needed.new ≡ point_needed_after needed.old (point_bytes key.now) }
 {
-    ms_curve_calls::point(key, point, needed)
+    ms_calls::point(key, point, needed)
 }
 
 /// The values of the locks: the transaction's version, the input's sequence number and the transaction's locktime.

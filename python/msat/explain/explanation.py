@@ -11,13 +11,12 @@ import msat
 from msat import Assets, Signature
 
 from . import held as holding
-from . import kinds
 from .bech32 import addresses
 from .demand import Atom, Demand, atoms, demand, said
 from .given import Given, with_known_preimages
 from .lines import Line, lines
 from .locks import Locks, levels
-from .tree import Node, tree
+from .tree import Node, outline
 from .ways import Way, Ways, fewest
 
 # A signature of ECDSA in DER with the byte of its hash type has at most so many bytes as nodes relay it, with a low S.
@@ -143,12 +142,12 @@ def explain(given: Given, *, consensus: bool = False, assets: Optional[bytes] = 
     """What there is to say of a condition. A text that isn't sane is refused as `msat.check` refuses it, and a file as `msat.satisfy`."""
     text = given.text
     checked = msat.check(text, consensus=consensus)
-    root = tree(text)
-    kinds.ask(root)
+    root = outline(text, consensus=consensus).root
+    assert root is not None
     keys, values = _keys_and_hashes(root)
     spending = None if consensus and not _is_by_policy(text) else _spending(text, keys, consensus)
     return Explanation(
-        given, consensus, checked, root, tuple(lines(checked.script, root)), _limits(text, consensus),
+        given, consensus, checked, root, tuple(lines(text, checked.script, root, consensus=consensus)), _limits(text, consensus),
         None if given.standins else addresses(checked.program), keys, values, spending,
         None if assets is None else _held(text, root, checked.script, assets, consensus, given, spending),
     )  # fmt: skip

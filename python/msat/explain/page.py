@@ -102,7 +102,7 @@ def _explanation(found: Explanation) -> tuple[str, str]:
         f'<header><h1>A Miniscript condition</h1><p><span class="good">Sane</span>: type {safe(found.checked.type)}, '
         f"a Script of {words.count(found.limits[0].number, 'byte')}.</p><pre>{given_text(found.given.shown)}</pre>{notes}"
         f'<nav aria-label="Parts"><ul>{links}</ul></nav></header><main>{bodies}</main>'
-        '<footer><p class="soft">Written by msat-explain. Types, Script, limits, policy and weights come of calls of msat’s proved library; that '
+        '<footer><p class="soft">Written by msat-explain. Tree, types, Script, limits, policy and weights come of calls of msat’s proved library; that '
         "ways, names, mark and pictures are right is tested. Nothing here was loaded from elsewhere.</p></footer>"
     )
 

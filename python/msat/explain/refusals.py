@@ -11,9 +11,8 @@ from typing import Optional
 
 import msat
 
-from . import kinds
 from .given import Given, Unfit
-from .tree import Node, below, tree
+from .tree import Fit, Node, expression, outline
 
 # What each report asks for: the reports, their exit status, and what to do, as the table of docs/USE.md has them.
 ADVICE = (
@@ -229,9 +228,10 @@ def of_text(refused: msat.TextRefused, given: Given) -> Refusal:
     place = None if refused.place is None else given.place(refused.place)
     said = advice(refused.report)
     if refused.name in ("Rule", "Malleable"):
-        node = next(it for it in tree(given.text).walk() if it.place == refused.place)
-        sentence, fitting = _broken(refused, node), _fitting(refused, given, node)
-        said = said.rstrip(".") + (f". It fits with {fitting}" if fitting else "")
+        seen = outline(given.text)
+        assert seen.root is not None
+        sentence = _broken(refused, next(it for it in seen.root.walk() if it.place == refused.place))
+        said = said.rstrip(".") + (f". It fits with {_fitting(seen.fit, given)}" if seen.fit else "")
     else:
         sentence = _SENTENCES[refused.name].format(number=f"{refused.number or 0:,}")
     if refused.name == "Syntax":
@@ -244,7 +244,6 @@ def _broken(refused: msat.TextRefused, node: Node) -> str:
     """The rule of a node that breaks one, what its letters mean, and of which types its children are."""
     parts = []
     for name, child in zip(_parts_of(node), node.children):
-        kinds.ask(child)
         parts.append(f"{name} is {child.kind}" if name else f"the child is {child.kind}")
     form = f"{node.name}:X" if node.is_letter else f"{node.name}({_form_of(node)})"
     wanted = required(refused.subject or "")
@@ -253,29 +252,11 @@ def _broken(refused: msat.TextRefused, node: Node) -> str:
     return f"{form} requires: {wanted}.{here}" + (f" ({meant}.)" if meant else "")
 
 
-def _fitting(refused: msat.TextRefused, given: Given, node: Node) -> str:
-    """A letter before a child with which the library doesn't refuse the node for this rule any more: the first one that makes the
-    whole sane, or else that makes it fit here; nothing where there is none."""
-    fits = ""
-    for child in node.children[:20]:
-        for letter in "vsajncdtlu":
-            changed = given.text[: child.place] + below(letter, given.text[child.place :])
-            try:
-                msat.facts(changed)
-            except msat.TextRefused as other:
-                inside = other.place is not None and node.place <= other.place < node.place + len(node.text) + 2
-                worse = other.name in ("Syntax", "TooDeep") or other.name == "Rule" and refused.name == "Malleable"
-                if not fits and not worse and not (inside and other.name == refused.name):
-                    fits = f"{letter}: before {_shown(child, given)}"
-            else:
-                return f"{letter}: before {_shown(child, given)}"
-    return fits
-
-
-def _shown(node: Node, given: Given) -> str:
-    """A node as it was given, cut where it is long."""
-    said = "".join(given.shown[given.place(node.place) : given.place(node.place + len(node.text))].split())
-    return said if len(said) <= 40 else said[:38] + ".."
+def _fitting(fit: Fit, given: Given) -> str:
+    """The letter that fits, and before what of that which was given, cut where that is long."""
+    end = fit.place + len(expression(given.text, fit.place))
+    said = "".join(given.shown[given.place(fit.place) : given.place(end)].split())
+    return f"{fit.letter}: before {said if len(said) <= 40 else said[:38] + '..'}"
 
 
 def _parts_of(node: Node) -> list[str]:

@@ -1,29 +1,27 @@
 # SPDX-License-Identifier: MIT
-"""The tree of a text, as it is written: with its sugar, and with the place of each name and letter, by which refusals and audits
-name nodes. The text is one that the library has read, so nothing is tested here."""
+"""The tree of a text, as the library prints it by `tree`: each node with its place, by which refusals, traces and audits name nodes, with its
+type and its arguments; and of a text that breaks a rule of the types the letter that fits. Nothing of it is reckoned here."""
 
 import re
 from dataclasses import dataclass, field
-from typing import Iterator
+from typing import Iterator, Optional
 
-# How many arguments of a fragment are no nodes, but keys, hash values and numbers. Those behind them are nodes.
-_PLAIN = dict.fromkeys(("pk", "pkh", "pk_k", "pk_h", "older", "after", "sha256", "hash256", "ripemd160", "hash160"), 1)
-_PLAIN.update(thresh=1, multi=1 << 16)
+import msat
+
 _WORD = re.compile(r"[^(),:]+")
 
 
 @dataclass
 class Node:
-    """A fragment or a wrapper letter: its name, its place, its arguments that are no nodes, and its children. `text` is its own
-    part of the text; `kind` are its type letters, as far as they were asked."""
+    """A fragment or a wrapper letter as it stands in the text: its name, its place, its type, its arguments that are no nodes, and its
+    children."""
 
     name: str
     place: int
-    is_letter: bool = False
-    arguments: list[str] = field(default_factory=list)
+    is_letter: bool
+    kind: str
+    arguments: list[str]
     children: list["Node"] = field(default_factory=list)
-    text: str = ""
-    kind: str = ""
 
     def walk(self) -> Iterator["Node"]:
         """The node and all below it, as they are written."""
@@ -39,69 +37,88 @@ class Node:
         return found
 
 
-class _Reader:
-    def __init__(self, text: str):
-        self.text = text
-        self.at = 0
+@dataclass(frozen=True)
+class Fit:
+    """A letter that lets a node pass, and the place before which it stands."""
 
-    def word(self) -> str:
-        found = _WORD.match(self.text, self.at)
-        if not found:
-            raise ValueError(f"no word at {self.at}")
-        self.at = found.end()
-        return found[0]
-
-    def take(self, letter: str) -> bool:
-        taken = self.text.startswith(letter, self.at)
-        self.at += taken
-        return taken
-
-    def node(self) -> Node:
-        """The expression that begins here: its letters, each a node over the next, and its fragment. Letters may stand in several
-        runs, as in `t:v:1`."""
-        start, letters = self.at, self.word()
-        if not self.take(":"):
-            self.at = start
-            return self.fragment()
-        chain = [Node(letter, start + at, is_letter=True) for at, letter in enumerate(letters)]
-        chain.append(self.node())
-        for upper, lower in zip(chain, chain[1:]):
-            upper.children = [lower]
-        for node in chain[:-1]:
-            node.text = self.text[node.place : self.at]
-        return chain[0]
-
-    def fragment(self) -> Node:
-        place = self.at
-        node = Node(self.word(), place)
-        if self.take("("):
-            while True:
-                if len(node.arguments) < _PLAIN.get(node.name, 0):
-                    node.arguments.append(self.word())
-                else:
-                    node.children.append(self.node())
-                if not self.take(","):
-                    break
-            self.take(")")
-        node.text = self.text[place : self.at]
-        return node
+    letter: str
+    place: int
 
 
-def tree(text: str) -> Node:
-    """The tree of a text.
+@dataclass(frozen=True)
+class Outline:
+    """What the library says of the nodes of a text: the root, none where the text can't be read; and the letter that fits, where there is one."""
 
-    >>> root = tree("or_d(pk(A),and_v(v:pkh(B),older(144)))")
-    >>> [(node.name, node.place, node.text) for node in root.walk()][3:5]
-    [('v', 17, 'v:pkh(B)'), ('pkh', 19, 'pkh(B)')]
+    root: Optional[Node]
+    fit: Optional[Fit] = None
+
+
+def read(text: str, report: str) -> Outline:
+    """The tree of a text whose report of `tree` this is. Of several lines with one place the first is the node as it stands in the text; the
+    others are what its name stands for besides, of which the arguments are taken.
+
+    >>> outline = read("t:and_b(pk(A),0)", '''node 0 0 - and_v
+    ... node 2 1 - and_b
+    ... node 8 2 Bonduse c
+    ... node 8 3 Konduse pk_k 02
+    ... node 14 2 Bzduse 0
+    ... node 0 1 Bzuf 1
+    ... refused text Rule AndBY at 2
+    ... fits a at 14
+    ... ''')
+    >>> [(it.name, it.place, it.kind, it.arguments) for it in outline.root.walk()]
+    [('t', 0, '-', []), ('and_b', 2, '-', []), ('pk', 8, 'Bonduse', ['02']), ('0', 14, 'Bzduse', [])]
+    >>> [it.name for it in outline.root.chain()], outline.fit
+    (['t', 'and_b'], Fit(letter='a', place=14))
     """
-    return _Reader(text).node()
+    nodes: dict[int, Node] = {}
+    open_: list[Node] = []
+    fit = None
+    for line in report.splitlines():
+        kind, *words = line.split(" ")
+        if kind == "fits":
+            fit = Fit(words[0], int(words[2]))
+        if kind != "node":
+            continue
+        place, depth, type_, _, *arguments = words
+        if int(place) in nodes:
+            nodes[int(place)].arguments += arguments
+            continue
+        node = nodes[int(place)] = _node(text, int(place), type_, arguments)
+        del open_[int(depth) :]
+        if open_:
+            open_[-1].children.append(node)
+        open_.append(node)
+    return Outline(next(iter(nodes.values()), None), fit)
 
 
-def below(letter: str, text: str) -> str:
-    """The text with a wrapper letter before it.
+def _node(text: str, place: int, kind: str, arguments: list[str]) -> Node:
+    """The node that is named at this place: by its first letter alone, where its word stands before a colon."""
+    word = _WORD.match(text, place)
+    assert word is not None
+    is_letter = text[word.end() : word.end() + 1] == ":"
+    return Node(word[0][:1] if is_letter else word[0], place, is_letter, kind, arguments)
 
-    >>> below("v", "c:pk_k(A)"), below("v", "pk(A)")
-    ('vc:pk_k(A)', 'v:pk(A)')
+
+def outline(text: str, *, consensus: bool = False) -> Outline:
+    """What the library says of the nodes of a text."""
+    try:
+        report = msat.report(["tree", *(["--consensus"] if consensus else []), text])
+    except msat.TextRefused as refused:
+        report = refused.report
+    return read(text, report)
+
+
+def expression(text: str, place: int) -> str:
+    """The expression that begins at a place of a text.
+
+    >>> text = "or_d(pk(A),and_v(v:pkh(B),older(144)))"
+    >>> expression(text, 5), expression(text, 17), expression(text, 26)
+    ('pk(A)', 'v:pkh(B)', 'older(144)')
     """
-    first = re.match(r"[a-z]+:", text)
-    return letter + text if first else f"{letter}:{text}"
+    depth = 0
+    for at in range(place, len(text)):
+        depth += (text[at] == "(") - (text[at] == ")")
+        if depth < 0 or depth == 0 and text[at] == ",":
+            return text[place:at]
+    return text[place:]

@@ -1,5 +1,5 @@
 -- What is kept of an input that was read. No public clause cites it, so it need not be believed.
-use Rattle.std.specs.Prelude.{◌≡◌, ℕ, ◌≤◌, ◌^◌, slice_get, IfSome, Some}
+use Rattle.std.specs.Prelude.{◌≡◌, ℕ, ◌≤◌, ◌^◌, slice_get, IfSome, Option, Some, None, Result, Ok, Err}
 use Rattle.std.specs.Option.{option_map}
 use Rattle.def_script.specs.Bytes.{Bytes}
 use Rattle.def_script.specs.Witness.{weight}
@@ -8,9 +8,12 @@ use Rattle.def_psbt.specs.Transaction.{TransactionInput}
 use Rattle.def_psbt.specs.Map.{Psbt}
 use Rattle.def_tree.specs.InRange.{IsInRange}
 use Rattle.def_spend.specs.declared.Kind.{Kind}
+use Rattle.def_spend.specs.declared.State.{State}
 use Rattle.def_spend.specs.declared.Verification.{Verification}
+use Rattle.def_spend.specs.declared.Verification.TheVariants.{Verified, Unverified}
+use Rattle.def_spend.specs.Fields.{asked_type}
 use Rattle.def_spend.specs.Utxo.{utxo_of, amount_of}
-use Rattle.def_spend.specs.Hashes.{script_in}
+use Rattle.def_spend.specs.Hashes.{script_in, hash_by}
 use Rattle.def_spend.specs.Input.{Spend, spends_of, locks_of}
 use Rattle.def_spend.specs.Kinds.{kind_of}
 use Rattle.def_spend.specs.Reading.{Input, script_code, HasReading}
@@ -36,15 +39,27 @@ pub record IsAt (verification : Verification) (psbt : Psbt) (number : ℕ) (spen
   pub map_is : slice_get psbt.inputs number ≡ Some spend.fields
   pub fields : held ≡ held_in spend.fields
 
--- this is what the transaction says of it, what its map holds, what it spends, its locks, and which signatures count
-pub record IsToldOf (spend : Spend) (input : TransactionInput) (held : Held) (spent : Spent) (locks : Locks) (verifying : Verifying) : Type 0 where
+-- this is what the transaction says of it, what its map holds, what it spends, and which signatures count
+pub record IsToldOf (spend : Spend) (input : TransactionInput) (held : Held) (spent : Spent) (verifying : Verifying) : Type 0 where
   pub same_input : input ≡ spend.input
   pub fields : held ≡ held_in spend.fields
   pub amount : amount_seen spent.amount ≡ amount_of (utxo_of spend.input.outpoint spend.fields)
   pub script : code_found spent.script ≡ script_code spend
+  pub verifies : IsVerifying verifying spend.transaction spend.number
+
+-- what a signature of the asked type signs, where signatures are judged and there is a Script
+abbrev pub asked_by : Verification → Result Bytes State → Spend → Option Bytes
+asked_by Verified (Ok script) spend = hash_by (asked_type spend.fields) spend
+asked_by Verified (Err state) spend = None
+asked_by Unverified read spend = None
+
+-- this is what its map holds, what it spends, its locks, which signatures count, and what those of the asked type sign
+pub record IsSettledBy (spend : Spend) (held : Held) (spent : Spent) (locks : Locks) (verifying : Verifying) (hash : Option Bytes) : Type 0 where
+  pub fields : held ≡ held_in spend.fields
+  pub script : code_found spent.script ≡ script_code spend
   pub values : locks ≡ locks_of spend
   pub verified : spend.verification ≡ verification_of verifying
-  pub verifies : IsVerifying verifying spend.transaction spend.number
+  pub hash_is : hash ≡ asked_by (verification_of verifying) (code_found spent.script) spend
 
 -- what it demands
 pub record IsGuarded (spend : Spend) (amount : Amount) (kind : Kind) (script : Bytes) : Type 0 where
@@ -68,7 +83,8 @@ abbrev pub found_at : (verification : Verification) (psbt : Psbt) (number : ℕ)
 found_at verification psbt number settled = input_of (spend_at verification psbt number) (option_map shape settled.tree)
 
 pub record IsRead (verification : Verification) (psbt : Psbt) (number : ℕ) (input : TransactionInput) (held : Held) (amount : Amount) (kind : Kind) (script : Bytes)
-    (settled : Settled) : Type 0 where
+    (asked : Option Bytes) (settled : Settled) : Type 0 where
   pub at : IsAt verification psbt number (spend_at verification psbt number) input held
   pub guarded : IsGuarded (spend_at verification psbt number) amount kind script
+  pub asked_is : asked ≡ asked_by verification (script_code (spend_at verification psbt number)) (spend_at verification psbt number)
   pub found : IsFound (found_at verification psbt number settled) settled

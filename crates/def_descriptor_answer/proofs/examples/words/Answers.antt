@@ -18,11 +18,20 @@ returns-clause-leading_zero c = refl
 pub returns-clause-options : goal.returns-clause-options
 returns-clause-options c = refl
 
+pub returns-clause-updates : goal.returns-clause-updates
+returns-clause-updates c = (refl, refl, refl, refl)
+
 pub returns-clause-no_form : goal.returns-clause-no_form
 returns-clause-no_form c = record { replies = refl }
 
 pub returns-clause-no_text : goal.returns-clause-no_text
 unfolding read_parts digits
 returns-clause-no_text c =
+    let short : length (codes "x") ≤ MOST_BYTES = omega arith in
+    record { replies = (Err (Syntax 0), wrong_parts short refl, refl) }
+
+pub returns-clause-no_text_either : goal.returns-clause-no_text_either
+unfolding read_parts digits
+returns-clause-no_text_either c =
     let short : length (codes "x") ≤ MOST_BYTES = omega arith in
     record { replies = (Err (Syntax 0), wrong_parts short refl, refl) }

@@ -1,21 +1,12 @@
-use Rattle.std.proofs.Common.{List, ℕ, subst, refl}
-use Rattle.std.specs.Io.KnownBytes.{Appends}
-use Rattle.std.proofs.lemmas.Result.{MatchResult-from_both}
-use Rattle.ms_io.specs.Moves.{AppendsPrefix}
+use Rattle.std.proofs.Common.{List, ℕ, subst}
 use Rattle.ms_io.specs.Sides.{side}
 use Rattle.ms_io.specs.declared.sink.SinkFailed.{SinkFailed}
 use Rattle.ms_lines.specs.Through.{PassesOrFails}
-use Rattle.ms_lines.proofs.ThroughLemmas.{joined, not_held, written_behind}
+use Rattle.ms_lines.proofs.ThroughLemmas.{not_held}
 use Rattle.ms_lines.proofs.through.put.Goals as goal
 
 pub returns : goal.returns
 returns g c =
-    let one = side g.K.Sink.written g.K.Sink.faults c.args.sink.now c.flush.new.sink in
-    let two = side g.K.Sink.written g.K.Sink.faults c.flush.new.sink c.put_all.new.sink in
-    subst (λ (held : List ℕ). PassesOrFails {E = SinkFailed} (joined one two) held c.flush.new.held.items c.args.bytes.now c.put_all.result)
-    (not_held c.hold.result c.args.held.now.items c.hold.new.held.items c.args.bytes.now c.hold.ensures c.if-hold.false)
-    (written_behind {E = SinkFailed} {F = SinkFailed} one two c.hold.new.held.items c.args.bytes.now c.put_all.result c.flush.new.held.items refl refl
-    c.in_ok-flush.ensures.all c.in_ok-flush.ensures.passes
-    (MatchResult-from_both c.put_all.result (λ _. Appends two.old two.new c.args.bytes.now) (λ _. AppendsPrefix two.old two.new c.args.bytes.now)
-    c.put_all.ensures.all c.put_all.ensures.part)
-    c.put_all.ensures.cause)
+    let behind = side g.K.Sink.written g.K.Sink.faults c.args.sink.now c.write_behind.new.sink in
+    subst (λ (held : List ℕ). PassesOrFails {E = SinkFailed} behind held c.write_behind.new.held.items c.args.bytes.now c.write_behind.result)
+    (not_held c.hold.result c.args.held.now.items c.hold.new.held.items c.args.bytes.now c.hold.ensures c.if-hold.false) c.write_behind.ensures

@@ -1,4 +1,4 @@
-use Rattle.std.proofs.Common.{◌+◌, ◌-◌, ◌∙◌, ap, arith}
+use Rattle.std.proofs.Common.{◌+◌, ◌∙◌, ap, arith}
 use Rattle.def_tree.specs.InRange.{depth}
 use Rattle.def_tree.specs.Size.{nodes}
 use Rattle.def_answer.specs.Outline.{node_line}
@@ -6,12 +6,13 @@ use Rattle.std.specs.String.{string_bytes}
 use Rattle.ms_tree.specs.Shape.{shape}
 use Rattle.ms_tree.proofs.Parts.{nodes_at, in_range_at}
 use Rattle.ms_outline.proofs.Standing.{own, and_or_x, and_or_y, and_or_z, two_x, two_y, thresh_xs, wrap_x, this_one, next_ones, and_or_written, on_ok, loop_written, left_nodes, depth_at}
+use Rattle.ms_outline.proofs.Some.{some_nodes}
 use Rattle.ms_outline.proofs.outline.+push_tree.Goals as goal
 
 pub push_tree-push_node-requires-clause-types : goal.push_tree-push_node-requires-clause-types
 push_tree-push_node-requires-clause-types t c =
     own c.args.types.now.correctness.items c.args.types.now.malleability.items c.args.first _ (shape c.args.tree.now)
-    (ap (λ n. c.args.first + (n - 1)) c.nodes.ensures) c.requires.types
+    c.requires.own c.requires.types
 
 pub push_tree-push_tree-requires : goal.push_tree-push_tree-requires
 push_tree-push_tree-requires t c =
@@ -27,7 +28,7 @@ push_tree-push_tree-requires t c =
             omega (arith, c.requires.places, size),
             (
               omega (arith, c.requires.room, deep),
-              omega (arith, c.requires.numbers, size),
+              (omega (arith, c.requires.numbers, size), omega (arith, c.nodes.ensures, some_nodes (shape c.in-AndOr.x.now))),
             ),
           ),
         ),
@@ -39,7 +40,7 @@ push_tree-push_tree-requires-in-AndOr t c =
     let is = c.in-AndOr.ensures.shows in
     let size = ap nodes is in
     let deep = ap depth is in
-    let x = c.nodes-in-AndOr.ensures in (
+    let x = c.nodes.ensures in (
       omega (arith, c.decreases, size),
       (
         c.in-AndOr.ensures.in_range.1,
@@ -49,7 +50,7 @@ push_tree-push_tree-requires-in-AndOr t c =
             omega (arith, c.requires.places, size, x),
             (
               omega (arith, c.requires.room, deep),
-              omega (arith, c.requires.numbers, size, x),
+              (omega (arith, c.requires.numbers, size, x), omega (arith, x, c.nodes-in-AndOr.ensures, some_nodes (shape c.in-AndOr.y.now))),
             ),
           ),
         ),
@@ -61,8 +62,8 @@ push_tree-push_tree-requires-in-AndOr-2 t c =
     let is = c.in-AndOr.ensures.shows in
     let size = ap nodes is in
     let deep = ap depth is in
-    let x = c.nodes-in-AndOr.ensures in
-    let y = c.nodes-in-AndOr-2.ensures in (
+    let x = c.nodes.ensures in
+    let y = c.nodes-in-AndOr.ensures in (
       omega (arith, c.decreases, size),
       (
         c.in-AndOr.ensures.in_range.2,
@@ -72,7 +73,7 @@ push_tree-push_tree-requires-in-AndOr-2 t c =
             omega (arith, c.requires.places, size, x, y),
             (
               omega (arith, c.requires.room, deep),
-              omega (arith, c.requires.numbers, size, x, y),
+              (omega (arith, c.requires.numbers, size, x, y), omega (arith, c.requires.own, size, x, y, some_nodes (shape c.in-AndOr.z.now))),
             ),
           ),
         ),
@@ -93,7 +94,7 @@ push_tree-push_tree-requires-in-Two t c =
             omega (arith, c.requires.places, size),
             (
               omega (arith, c.requires.room, deep),
-              omega (arith, c.requires.numbers, size),
+              (omega (arith, c.requires.numbers, size), omega (arith, c.nodes-in-Two.ensures, some_nodes (shape c.in-Two.x.now))),
             ),
           ),
         ),
@@ -115,7 +116,7 @@ push_tree-push_tree-requires-in-Two-2 t c =
             omega (arith, c.requires.places, size, x),
             (
               omega (arith, c.requires.room, deep),
-              omega (arith, c.requires.numbers, size, x),
+              (omega (arith, c.requires.numbers, size, x), omega (arith, c.requires.own, size, x, some_nodes (shape c.in-Two.y.now))),
             ),
           ),
         ),
@@ -157,7 +158,7 @@ push_tree-push_tree-requires-in-Wrap t c =
             omega (arith, c.requires.places, size),
             (
               omega (arith, c.requires.room, deep),
-              omega (arith, c.requires.numbers, size),
+              (omega (arith, c.requires.numbers, size), omega (arith, c.requires.own, size, some_nodes (shape c.in-Wrap.x.now))),
             ),
           ),
         ),
@@ -167,12 +168,12 @@ push_tree-push_tree-requires-in-Wrap t c =
 pub push_tree-returns-in_ok-push_tree-in-AndOr-2 :
     goal.push_tree-returns-in_ok-push_tree-in-AndOr-2
 push_tree-returns-in_ok-push_tree-in-AndOr-2 t c =
-    let x = c.nodes-in-AndOr.ensures in
-    let y = c.nodes-in-AndOr-2.ensures in
+    let x = c.nodes.ensures in
+    let y = c.nodes-in-AndOr.ensures in
     on_ok c.push_tree-in-AndOr-2.result _ _
     (and_or_written (node_line c.args.offsets.now) (string_bytes c.args.report.now) _ _ _ _ c.args.first _ _ _ c.args.depth (shape c.args.tree.now)
     (shape c.in-AndOr.x.now) (shape c.in-AndOr.y.now) (shape c.in-AndOr.z.now) c.in-AndOr.ensures.shows (ap (λ n. c.args.first + n) x) (omega (arith, y))
-    (ap (λ n. c.args.first + (n - 1)) c.nodes.ensures)
+    c.requires.own
     c.in_ok-push_node.ensures c.in_ok-push_tree-in-AndOr.ensures c.in_ok-push_tree-in-AndOr-2.ensures)
     c.push_tree-in-AndOr-2.ensures
 
@@ -195,7 +196,7 @@ push_trees-push_tree-requires t c =
             omega (arith, c.requires.places, inv.left, left),
             (
               omega (arith, c.requires.room, depth_at xs i x below at),
-              omega (arith, c.requires.numbers, inv.left, left),
+              (omega (arith, c.requires.numbers, inv.left, left), omega (arith, c.nodes.ensures, some_nodes (shape x))),
             ),
           ),
         ),
@@ -211,7 +212,7 @@ push_trees-loop-tree-preserved t c =
     let at = c.tree-item.is in
     let inv = c.loop-tree.invariant in
     let left = left_nodes (node_line c.args.offsets.now) xs i x below at in
-    let size = c.nodes-next.ensures in
+    let size = c.nodes.ensures in
     record {
       left = omega (arith, inv.left, left, size);
       types = next_ones _ _ _ _ xs i x below at (ap (λ n. c.loop-tree.next + n) size) inv.types;

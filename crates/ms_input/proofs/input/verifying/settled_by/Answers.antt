@@ -1,8 +1,9 @@
 use Rattle.std.proofs.Common.{sym, ap, ◌∙◌}
 use Rattle.ms_input.specs.Settled.{IsOf}
 use Rattle.ms_input.specs.Spending.{code_seen, code_found}
+use Rattle.ms_input.specs.Verified.{verification_of}
 use Rattle.ms_input.proofs.Found.{each_of, ap_ok, found_early, found_settled}
-use Rattle.ms_input.proofs.JudgedBy.{script_in_is, is_judged}
+use Rattle.ms_input.proofs.JudgedBy.{asked_judged}
 use Rattle.ms_input.proofs.input.verifying.settled_by.Goals as goal
 
 pub returns-in-Ok : goal.returns-in-Ok
@@ -12,10 +13,9 @@ returns-in-Ok c = each_of c.settle.result _ (λ spend told.
       fields = told.fields;
       values = told.values;
       judged = c.judging-judging.ensures spend told.verified
-          (is_judged c.args.verifying spend c.args.fields.now c.asked_type.result _ told.fields c.asked_type.ensures
-          (c.asked_hash-hash.ensures spend told.verifies told.same_input (c.as_slice-bytes.ensures ∙ script_in_is spend (code_seen c.in-Ok.script) (sym script_is)) told.amount));
+          (asked_judged (verification_of c.args.verifying) (code_found c.args.spent.now.script) (code_seen c.in-Ok.script) spend c.args.hash.now told.hash_is (ap code_found c.in-Ok.is));
     } in
-    found_settled c.settle.result spend c.args.fields.now c.args.locks c.judging-judging.result _ (ap_ok c.as_slice-bytes.ensures ∙ script_is) of
+    found_settled c.settle.result spend c.args.fields.now c.args.locks c.judging-judging.result _ (ap_ok c.as_slice.ensures ∙ script_is) of
     c.settle.ensures.reading c.settle.ensures.in_range c.settle.ensures.state c.settle.ensures.assets c.settle.ensures.words c.settle.ensures.stack c.settle.ensures.light)
 
 pub returns-in-Err : goal.returns-in-Err

@@ -1,0 +1,11 @@
+pub mod Secret
+pub mod Offer
+pub mod Enough
+pub mod Way
+pub mod Order
+pub mod Tried
+pub mod Bound
+pub mod StandIn
+pub mod Print
+pub mod Examples
+pub mod Laws

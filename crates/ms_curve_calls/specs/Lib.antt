@@ -1,3 +1,0 @@
--- What the calls on signatures and keys answer.
-pub mod Codes
-pub mod Given

@@ -1,0 +1,7 @@
+mod Keyed
+mod Places
+mod Numbered
+mod Filling
+mod Replying
+mod Whole
+mod Looking

@@ -1,0 +1,4 @@
+pub mod Known
+pub mod Book
+pub mod Opening
+pub mod Scaffolding

@@ -1,0 +1,4 @@
+pub mod Bare
+pub mod Heads
+pub mod Trees
+pub mod Lines

@@ -1,0 +1,6 @@
+mod Walks
+mod Fronts
+mod Belongs
+mod Placed
+mod Going
+mod Whole

@@ -1,0 +1,5 @@
+mod Own
+mod Same
+mod Sound
+mod Again
+mod Whole

@@ -1,0 +1,10 @@
+pub mod Parts
+pub mod Masks
+pub mod More
+pub mod Listed
+pub mod LocksHeld
+pub mod Settled
+pub mod Leasts
+pub mod Below
+pub mod Reckoned
+pub mod Examples

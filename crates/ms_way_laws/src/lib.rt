@@ -1,0 +1,4 @@
+//! What follows from the definitions of ways.
+#![tactic(auto)]
+
+mod laws;
