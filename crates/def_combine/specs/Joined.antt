@@ -5,7 +5,8 @@ use Rattle.def_psbt.specs.declared.PsbtVersion.{PsbtVersion}
 use Rattle.def_psbt.specs.declared.PsbtVersion.TheVariants as version
 use Rattle.def_psbt.specs.Transaction.{transaction_text}
 use Rattle.def_psbt.specs.Map.{Pair, Map, Psbt, value_of_type}
-use Rattle.def_psbt.specs.Fields.{GLOBAL_FALLBACK_LOCKTIME, number_or, version_number, version_of, lock_time_of}
+use Rattle.def_psbt.specs.Types.{GLOBAL_FALLBACK_LOCKTIME}
+use Rattle.def_psbt.specs.Fields.{number_or, version_number, version_of, lock_time_of}
 use Rattle.def_psbt.specs.Listed.{stands}
 
 -- ---- maps

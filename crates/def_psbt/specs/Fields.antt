@@ -3,53 +3,12 @@ use Rattle.std.specs.Prelude.{ℕ, ◌==◌, ◌&&◌, ◌||◌, not, max, Bool,
 use Rattle.std.specs.List.{list_any}
 use Rattle.std.specs.Int.{w32, w64, from_le_bytes}
 use Rattle.def_script.specs.Bytes.{Bytes}
+use Rattle.def_psbt.specs.Types.{GLOBAL_TX_VERSION, GLOBAL_FALLBACK_LOCKTIME, GLOBAL_VERSION, IN_PREVIOUS_TXID, IN_OUTPUT_INDEX, IN_SEQUENCE, IN_REQUIRED_TIME_LOCKTIME, IN_REQUIRED_HEIGHT_LOCKTIME, OUT_AMOUNT, OUT_SCRIPT}
 use Rattle.def_psbt.specs.declared.PsbtVersion.{PsbtVersion}
 use Rattle.def_psbt.specs.declared.PsbtVersion.TheVariants as version
 use Rattle.def_psbt.specs.Part.{Part, first_size}
 use Rattle.def_psbt.specs.Transaction.{TransactionInput, TransactionOutput, Transaction}
 use Rattle.def_psbt.specs.Map.{Map, pair_of_type, value_of_type}
-
-abbrev pub GLOBAL_UNSIGNED_TX : ℕ
-GLOBAL_UNSIGNED_TX = 0x00
-
-abbrev pub GLOBAL_TX_VERSION : ℕ
-GLOBAL_TX_VERSION = 0x02
-
-abbrev pub GLOBAL_FALLBACK_LOCKTIME : ℕ
-GLOBAL_FALLBACK_LOCKTIME = 0x03
-
-abbrev pub GLOBAL_INPUT_COUNT : ℕ
-GLOBAL_INPUT_COUNT = 0x04
-
-abbrev pub GLOBAL_OUTPUT_COUNT : ℕ
-GLOBAL_OUTPUT_COUNT = 0x05
-
-abbrev pub GLOBAL_TX_MODIFIABLE : ℕ
-GLOBAL_TX_MODIFIABLE = 0x06
-
-abbrev pub GLOBAL_VERSION : ℕ
-GLOBAL_VERSION = 0xfb
-
-abbrev pub IN_PREVIOUS_TXID : ℕ
-IN_PREVIOUS_TXID = 0x0e
-
-abbrev pub IN_OUTPUT_INDEX : ℕ
-IN_OUTPUT_INDEX = 0x0f
-
-abbrev pub IN_SEQUENCE : ℕ
-IN_SEQUENCE = 0x10
-
-abbrev pub IN_REQUIRED_TIME_LOCKTIME : ℕ
-IN_REQUIRED_TIME_LOCKTIME = 0x11
-
-abbrev pub IN_REQUIRED_HEIGHT_LOCKTIME : ℕ
-IN_REQUIRED_HEIGHT_LOCKTIME = 0x12
-
-abbrev pub OUT_AMOUNT : ℕ
-OUT_AMOUNT = 0x03
-
-abbrev pub OUT_SCRIPT : ℕ
-OUT_SCRIPT = 0x04
 
 -- ---- fields
 

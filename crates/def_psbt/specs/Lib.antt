@@ -2,6 +2,7 @@ pub mod Transaction
 pub mod Map
 pub mod Part
 pub mod TransactionReading
+pub mod Types
 pub mod Fields
 pub mod Forms
 pub mod Listed

@@ -8,6 +8,7 @@ use Rattle.def_hash.specs.declared.HashKind.TheVariants as kind
 use Rattle.def_hash.specs.Hash.{digest_of, digest_length}
 use Rattle.def_script.specs.Bytes.{Bytes}
 use Rattle.def_script.specs.Sizes.{SizeReading, read_size}
+use Rattle.def_psbt.specs.Types.{GLOBAL_UNSIGNED_TX, GLOBAL_TX_VERSION, GLOBAL_FALLBACK_LOCKTIME, GLOBAL_INPUT_COUNT, GLOBAL_OUTPUT_COUNT, GLOBAL_TX_MODIFIABLE, GLOBAL_VERSION, IN_NON_WITNESS_UTXO, IN_WITNESS_UTXO, IN_PARTIAL_SIG, IN_SIGHASH_TYPE, IN_REDEEM_SCRIPT, IN_WITNESS_SCRIPT, IN_BIP32_DERIVATION, IN_FINAL_SCRIPTSIG, IN_FINAL_SCRIPTWITNESS, IN_RIPEMD160, IN_SHA256, IN_HASH160, IN_HASH256, IN_PREVIOUS_TXID, IN_OUTPUT_INDEX, IN_SEQUENCE, IN_REQUIRED_TIME_LOCKTIME, IN_REQUIRED_HEIGHT_LOCKTIME, OUT_REDEEM_SCRIPT, OUT_WITNESS_SCRIPT, OUT_BIP32_DERIVATION, OUT_AMOUNT, OUT_SCRIPT}
 use Rattle.def_psbt.specs.declared.PsbtFault.{PsbtFault}
 use Rattle.def_psbt.specs.declared.PsbtFault.TheVariants.{RepeatedKey, KeyForm, ValueForm, Version, Excluded}
 use Rattle.def_psbt.specs.declared.PsbtVersion.{PsbtVersion}
@@ -74,46 +75,46 @@ later version.Two form = form
 -- the types of the global map. Which of them stand in the PSBT's version is known only where the map ends
 unfoldable pub global_form : (type : ℕ) → Form
 global_form type =
-    if type == 0x00 then plain (λ value. is_unsigned (transaction_of value))
-    else if type == 0x02 then sized_plain 4
-    else if type == 0x03 then sized_plain 4
-    else if type == 0x04 then plain is_size
-    else if type == 0x05 then plain is_size
-    else if type == 0x06 then sized_plain 1
-    else if type == 0xfb then record { key = no_data; value = λ data_bytes value. version_fault value }
+    if type == GLOBAL_UNSIGNED_TX then plain (λ value. is_unsigned (transaction_of value))
+    else if type == GLOBAL_TX_VERSION then sized_plain 4
+    else if type == GLOBAL_FALLBACK_LOCKTIME then sized_plain 4
+    else if type == GLOBAL_INPUT_COUNT then plain is_size
+    else if type == GLOBAL_OUTPUT_COUNT then plain is_size
+    else if type == GLOBAL_TX_MODIFIABLE then sized_plain 1
+    else if type == GLOBAL_VERSION then record { key = no_data; value = λ data_bytes value. version_fault value }
     else unlisted
 
 -- the types of a map of an input
 unfoldable pub input_form : PsbtVersion → (type : ℕ) → Form
 input_form version type =
-    if type == 0x00 then plain (λ value. is_some (network_transaction_of value))
-    else if type == 0x01 then plain (λ value. is_some (output_of value))
-    else if type == 0x02 then keyed is_signature
-    else if type == 0x03 then plain (λ value. length value == 4)
-    else if type == 0x04 then plain (λ value. true)
-    else if type == 0x05 then plain (λ value. true)
-    else if type == 0x06 then keyed is_derivation
-    else if type == 0x07 then plain (λ value. true)
-    else if type == 0x08 then plain (λ value. is_some (witness_of value))
-    else if type == 0x0a then preimage kind.Ripemd160
-    else if type == 0x0b then preimage kind.Sha256
-    else if type == 0x0c then preimage kind.Hash160
-    else if type == 0x0d then preimage kind.Hash256
-    else if type == 0x0e then later version (sized_plain 32)
-    else if type == 0x0f then later version (sized_plain 4)
-    else if type == 0x10 then later version (sized_plain 4)
-    else if type == 0x11 then later version (plain is_time)
-    else if type == 0x12 then later version (plain is_height)
+    if type == IN_NON_WITNESS_UTXO then plain (λ value. is_some (network_transaction_of value))
+    else if type == IN_WITNESS_UTXO then plain (λ value. is_some (output_of value))
+    else if type == IN_PARTIAL_SIG then keyed is_signature
+    else if type == IN_SIGHASH_TYPE then plain (λ value. length value == 4)
+    else if type == IN_REDEEM_SCRIPT then plain (λ value. true)
+    else if type == IN_WITNESS_SCRIPT then plain (λ value. true)
+    else if type == IN_BIP32_DERIVATION then keyed is_derivation
+    else if type == IN_FINAL_SCRIPTSIG then plain (λ value. true)
+    else if type == IN_FINAL_SCRIPTWITNESS then plain (λ value. is_some (witness_of value))
+    else if type == IN_RIPEMD160 then preimage kind.Ripemd160
+    else if type == IN_SHA256 then preimage kind.Sha256
+    else if type == IN_HASH160 then preimage kind.Hash160
+    else if type == IN_HASH256 then preimage kind.Hash256
+    else if type == IN_PREVIOUS_TXID then later version (sized_plain 32)
+    else if type == IN_OUTPUT_INDEX then later version (sized_plain 4)
+    else if type == IN_SEQUENCE then later version (sized_plain 4)
+    else if type == IN_REQUIRED_TIME_LOCKTIME then later version (plain is_time)
+    else if type == IN_REQUIRED_HEIGHT_LOCKTIME then later version (plain is_height)
     else unlisted
 
 -- the types of a map of an output
 unfoldable pub output_form : PsbtVersion → (type : ℕ) → Form
 output_form version type =
-    if type == 0x00 then plain (λ value. true)
-    else if type == 0x01 then plain (λ value. true)
-    else if type == 0x02 then keyed is_derivation
-    else if type == 0x03 then later version (sized_plain 8)
-    else if type == 0x04 then later version (plain (λ value. true))
+    if type == OUT_REDEEM_SCRIPT then plain (λ value. true)
+    else if type == OUT_WITNESS_SCRIPT then plain (λ value. true)
+    else if type == OUT_BIP32_DERIVATION then keyed is_derivation
+    else if type == OUT_AMOUNT then later version (sized_plain 8)
+    else if type == OUT_SCRIPT then later version (plain (λ value. true))
     else unlisted
 
 -- the type inside a key is whole and in its shortest spelling

@@ -15,7 +15,8 @@ use Rattle.def_psbt.specs.declared.Refusal.{Refusal}
 use Rattle.def_psbt.specs.declared.Refusal.TheVariants.{At}
 use Rattle.def_psbt.specs.Transaction.{Transaction}
 use Rattle.def_psbt.specs.Map.{Pair, Map, Psbt, type_of, pair_text, map_text, pair_of_type, has_types}
-use Rattle.def_psbt.specs.Fields.{GLOBAL_UNSIGNED_TX, GLOBAL_TX_VERSION, GLOBAL_INPUT_COUNT, GLOBAL_OUTPUT_COUNT, GLOBAL_TX_MODIFIABLE, GLOBAL_VERSION, IN_PREVIOUS_TXID, IN_OUTPUT_INDEX, OUT_AMOUNT, OUT_SCRIPT, has_field, size_in, version_of, has_time_alone, has_height_alone, outpoint_in, transaction_of_fields}
+use Rattle.def_psbt.specs.Types.{GLOBAL_UNSIGNED_TX, GLOBAL_TX_VERSION, GLOBAL_INPUT_COUNT, GLOBAL_OUTPUT_COUNT, GLOBAL_TX_MODIFIABLE, GLOBAL_VERSION, IN_PREVIOUS_TXID, IN_OUTPUT_INDEX, OUT_AMOUNT, OUT_SCRIPT}
+use Rattle.def_psbt.specs.Fields.{has_field, size_in, version_of, has_time_alone, has_height_alone, outpoint_in, transaction_of_fields}
 use Rattle.def_psbt.specs.TransactionReading.{transaction_of}
 use Rattle.def_psbt.specs.Listed.{Form, global_form, input_form, output_form, pair_fault}
 

@@ -3,6 +3,7 @@
 
 pub mod examples;
 pub mod laws;
+pub mod types;
 
 /// The version of a PSBT.
 #[derive(Clone, Copy, Debug, PartialEq, Eq)]

@@ -6,43 +6,8 @@ use Rattle.def_script.specs.Bytes.{Bytes}
 use Rattle.def_script.specs.Key.{is_key}
 use Rattle.def_machine.specs.Stacks.{Pairs}
 use Rattle.def_tree.specs.Tree.{Key}
+use Rattle.def_psbt.specs.Types.{IN_PARTIAL_SIG, IN_SIGHASH_TYPE, IN_BIP32_DERIVATION, IN_RIPEMD160, IN_HASH256}
 use Rattle.def_psbt.specs.Map.{Pair, Map, type_of, data_of}
-
--- ---- the types of keys, by BIP 174's names without `PSBT_IN_`
-
-abbrev pub NON_WITNESS_UTXO : ℕ
-NON_WITNESS_UTXO = 0x00
-
-abbrev pub WITNESS_UTXO : ℕ
-WITNESS_UTXO = 0x01
-
-abbrev pub PARTIAL_SIG : ℕ
-PARTIAL_SIG = 0x02
-
-abbrev pub SIGHASH_TYPE : ℕ
-SIGHASH_TYPE = 0x03
-
-abbrev pub REDEEM_SCRIPT : ℕ
-REDEEM_SCRIPT = 0x04
-
-abbrev pub WITNESS_SCRIPT : ℕ
-WITNESS_SCRIPT = 0x05
-
-abbrev pub BIP32_DERIVATION : ℕ
-BIP32_DERIVATION = 0x06
-
-abbrev pub FINAL_SCRIPTSIG : ℕ
-FINAL_SCRIPTSIG = 0x07
-
-abbrev pub FINAL_SCRIPTWITNESS : ℕ
-FINAL_SCRIPTWITNESS = 0x08
-
--- the first and the last of the four types of preimages
-abbrev pub RIPEMD160 : ℕ
-RIPEMD160 = 0x0a
-
-abbrev pub HASH256 : ℕ
-HASH256 = 0x0d
 
 -- ---- pairs of a type
 
@@ -61,21 +26,21 @@ field type fields = option_map (λ pair. pair.value) (find (has_type type) field
 
 -- a compressed key with its signature
 abbrev pub is_signed : Pair → Bool
-is_signed pair = has_type PARTIAL_SIG pair && is_key (data_of pair.key)
+is_signed pair = has_type IN_PARTIAL_SIG pair && is_key (data_of pair.key)
 
 abbrev pub signatures_in : (fields : Map) → Pairs
 signatures_in fields = map (λ pair. (data_of pair.key, pair.value)) (filter is_signed fields)
 
 -- a compressed key, with its signature or with the path to it
 abbrev pub has_key : Pair → Bool
-has_key pair = (has_type PARTIAL_SIG pair || has_type BIP32_DERIVATION pair) && is_key (data_of pair.key)
+has_key pair = (has_type IN_PARTIAL_SIG pair || has_type IN_BIP32_DERIVATION pair) && is_key (data_of pair.key)
 
 abbrev pub keys_in : (fields : Map) → List Key
 keys_in fields = map (λ pair. data_of pair.key) (filter has_key fields)
 
 -- a preimage of 32 bytes: no miniscript asks for another one
 abbrev pub is_preimage_pair : Pair → Bool
-is_preimage_pair pair = is_between RIPEMD160 HASH256 (type_of pair.key) && (length pair.value == 32)
+is_preimage_pair pair = is_between IN_RIPEMD160 IN_HASH256 (type_of pair.key) && (length pair.value == 32)
 
 abbrev pub preimages_in : (fields : Map) → List Bytes
 preimages_in fields = map (λ pair. pair.value) (filter is_preimage_pair fields)
@@ -93,4 +58,4 @@ asked (Some value) = from_le_bytes w32 value
 
 -- the number of the hash type that is asked
 abbrev pub asked_type : (fields : Map) → ℕ
-asked_type fields = asked (field SIGHASH_TYPE fields)
+asked_type fields = asked (field IN_SIGHASH_TYPE fields)

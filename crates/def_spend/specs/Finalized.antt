@@ -6,7 +6,8 @@ use Rattle.def_script.specs.Bytes.{Bytes}
 use Rattle.def_script.specs.Witness.{items_text, witness_text}
 use Rattle.def_psbt.specs.Transaction.{TransactionInput, Transaction, inputs_text, outputs_text, transaction_text, id_of}
 use Rattle.def_psbt.specs.Map.{Pair, Map, Psbt, type_of}
-use Rattle.def_spend.specs.Fields.{PARTIAL_SIG, FINAL_SCRIPTSIG, FINAL_SCRIPTWITNESS, RIPEMD160, HASH256, field, is_between}
+use Rattle.def_psbt.specs.Types.{IN_PARTIAL_SIG, IN_FINAL_SCRIPTSIG, IN_FINAL_SCRIPTWITNESS, IN_RIPEMD160, IN_HASH256}
+use Rattle.def_spend.specs.Fields.{field, is_between}
 use Rattle.def_spend.specs.Hashes.{script_in}
 use Rattle.def_spend.specs.Input.{Spend}
 use Rattle.def_spend.specs.declared.Kind.{Kind}
@@ -18,16 +19,16 @@ use Rattle.def_spend.specs.States.{state_of, is_ready, stack_of}
 
 -- what only signers want, and what was final: cleared once the input is
 abbrev pub is_cleared : (type : ℕ) → Bool
-is_cleared type = is_between PARTIAL_SIG FINAL_SCRIPTWITNESS type || is_between RIPEMD160 HASH256 type
+is_cleared type = is_between IN_PARTIAL_SIG IN_FINAL_SCRIPTWITNESS type || is_between IN_RIPEMD160 IN_HASH256 type
 
 abbrev pub is_kept : Pair → Bool
 is_kept pair = not (is_cleared (type_of pair.key))
 
 abbrev pub script_sig_pair : (script_sig : Bytes) → Pair
-script_sig_pair script_sig = record { key = FINAL_SCRIPTSIG ∷ []; value = script_sig }
+script_sig_pair script_sig = record { key = IN_FINAL_SCRIPTSIG ∷ []; value = script_sig }
 
 abbrev pub witness_pair : (witness : Bytes) → Pair
-witness_pair witness = record { key = FINAL_SCRIPTWITNESS ∷ []; value = witness }
+witness_pair witness = record { key = IN_FINAL_SCRIPTWITNESS ∷ []; value = witness }
 
 -- the final scriptSig, which isn't written where it is empty, and the final witness
 abbrev pub final_pairs : (script_sig witness : Bytes) → Map
@@ -64,7 +65,7 @@ finalized psbt inputs = record psbt { inputs = map written_map inputs }
 
 -- an input with its final scriptSig
 abbrev pub final_input : TransactionInput → (fields : Map) → TransactionInput
-final_input input fields = record input { script_sig = unwrap_or (field FINAL_SCRIPTSIG fields) [] }
+final_input input fields = record input { script_sig = unwrap_or (field IN_FINAL_SCRIPTSIG fields) [] }
 
 abbrev pub final_inputs : List TransactionInput → List Map → List TransactionInput
 final_inputs [] maps = []
@@ -77,7 +78,7 @@ final_transaction psbt = record psbt.transaction { inputs = final_inputs psbt.tr
 
 -- the final witness, which has no item where there is none
 abbrev pub final_witness : (fields : Map) → Bytes
-final_witness fields = unwrap_or (field FINAL_SCRIPTWITNESS fields) (0x00 ∷ [])
+final_witness fields = unwrap_or (field IN_FINAL_SCRIPTWITNESS fields) (0x00 ∷ [])
 
 -- the bytes of a transaction with witnesses: the marker and the flag behind the version, and the witnesses before the
 -- lock time
@@ -93,7 +94,7 @@ witnessed_text transaction witnesses =
 -- the bytes of the transaction as the network takes it: with witnesses where one has an item
 abbrev pub network_text : Psbt → Bytes
 network_text psbt =
-    if list_any (λ fields. has_item (field FINAL_SCRIPTWITNESS fields)) psbt.inputs
+    if list_any (λ fields. has_item (field IN_FINAL_SCRIPTWITNESS fields)) psbt.inputs
     then witnessed_text (final_transaction psbt) (map final_witness psbt.inputs)
     else transaction_text (final_transaction psbt)
 
@@ -103,7 +104,7 @@ network_text psbt =
 -- other the one that spends its kind of output
 abbrev pub known_script_sig : Spend → Option Bytes
 known_script_sig spend =
-    if has_final spend.fields then Some (unwrap_or (field FINAL_SCRIPTSIG spend.fields) []) else open_script_sig spend
+    if has_final spend.fields then Some (unwrap_or (field IN_FINAL_SCRIPTSIG spend.fields) []) else open_script_sig spend
 
 -- an input with its final scriptSig, which is left empty where it isn't known
 abbrev pub known_input : Spend → TransactionInput

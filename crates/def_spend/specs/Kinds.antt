@@ -7,7 +7,8 @@ use Rattle.def_spend.specs.declared.Kind.{Kind}
 use Rattle.def_spend.specs.declared.Kind.TheVariants as kind
 use Rattle.def_spend.specs.declared.State.{State}
 use Rattle.def_spend.specs.declared.State.TheVariants as state
-use Rattle.def_spend.specs.Fields.{REDEEM_SCRIPT, field}
+use Rattle.def_psbt.specs.Types.{IN_REDEEM_SCRIPT}
+use Rattle.def_spend.specs.Fields.{field}
 use Rattle.def_spend.specs.Utxo.{Utxo, utxo_of}
 use Rattle.def_spend.specs.Utxo as utxo
 use Rattle.def_spend.specs.Input.{Spend}
@@ -51,7 +52,7 @@ spent_utxo spend = utxo_of spend.input.outpoint spend.fields
 
 -- the program of the output that an input spends, or the state of an input that has none
 abbrev pub spent_program : Spend → Result Bytes State
-spent_program spend = program_of_utxo (spent_utxo spend) (field REDEEM_SCRIPT spend.fields)
+spent_program spend = program_of_utxo (spent_utxo spend) (field IN_REDEEM_SCRIPT spend.fields)
 
 -- ---- the kind
 
@@ -93,7 +94,7 @@ script_sig_by kind.P2shP2wpkh redeem = Some (pushed redeem)
 script_sig_by kind.Other redeem = None
 
 abbrev pub open_script_sig : Spend → Option Bytes
-open_script_sig spend = script_sig_by (kind_of spend) (unwrap_or (field REDEEM_SCRIPT spend.fields) [])
+open_script_sig spend = script_sig_by (kind_of spend) (unwrap_or (field IN_REDEEM_SCRIPT spend.fields) [])
 
 -- an output is a program, and the scriptSig is empty; or it is P2SH of the program, and the scriptSig is the one push of it
 abbrev pub IsGuardedBy : (program output script_sig : Bytes) → Type 0

@@ -9,7 +9,8 @@ use Rattle.def_psbt.specs.Map.{Map, Psbt}
 use Rattle.def_spend.specs.declared.State.{State}
 use Rattle.def_spend.specs.declared.State.TheVariants as state
 use Rattle.def_spend.specs.declared.Verification.{Verification}
-use Rattle.def_spend.specs.Fields.{WITNESS_SCRIPT, FINAL_SCRIPTSIG, FINAL_SCRIPTWITNESS, field, keys_in}
+use Rattle.def_psbt.specs.Types.{IN_WITNESS_SCRIPT, IN_FINAL_SCRIPTSIG, IN_FINAL_SCRIPTWITNESS}
+use Rattle.def_spend.specs.Fields.{field, keys_in}
 use Rattle.def_spend.specs.Input.{Spend, spends_of}
 use Rattle.def_spend.specs.Kinds.{is_script_hash, is_key_hash, spent_program}
 
@@ -25,7 +26,7 @@ has_item None = false
 has_item (Some value) = not (bytes_eq value (0x00 ∷ []))
 
 abbrev pub has_final : (fields : Map) → Bool
-has_final fields = has_byte (field FINAL_SCRIPTSIG fields) || has_item (field FINAL_SCRIPTWITNESS fields)
+has_final fields = has_byte (field IN_FINAL_SCRIPTSIG fields) || has_item (field IN_FINAL_SCRIPTWITNESS fields)
 
 -- the witness script of a program, or the state of an input that has none
 abbrev pub script_for : (program : Bytes) → (script : Option Bytes) → Result Bytes State
@@ -51,7 +52,7 @@ script_with (Err state) script = Err state
 
 -- that of an input that isn't Final
 abbrev pub open_script : Spend → Result Bytes State
-open_script spend = script_with (spent_program spend) (field WITNESS_SCRIPT spend.fields)
+open_script spend = script_with (spent_program spend) (field IN_WITNESS_SCRIPT spend.fields)
 
 -- the Script that is read and that signatures sign (BIP 143, `scriptCode`), or the state of an input of which none is
 abbrev pub script_code : Spend → Result Bytes State

@@ -8,7 +8,8 @@ use Rattle.def_psbt.specs.Forms.{output_of}
 use Rattle.def_psbt.specs.Map.{Map}
 use Rattle.def_spend.specs.Amount.{Amount}
 use Rattle.def_spend.specs.Amount as amount
-use Rattle.def_spend.specs.Fields.{NON_WITNESS_UTXO, WITNESS_UTXO, field}
+use Rattle.def_psbt.specs.Types.{IN_NON_WITNESS_UTXO, IN_WITNESS_UTXO}
+use Rattle.def_spend.specs.Fields.{field}
 
 pub data Utxo : Type 0 where
   -- the map has neither the previous transaction nor the output
@@ -37,8 +38,8 @@ utxo_by (Some previous) claim outpoint =
 abbrev pub utxo_of : Outpoint → (fields : Map) → Utxo
 utxo_of outpoint fields =
     utxo_by
-    (option_and_then network_transaction_of (field NON_WITNESS_UTXO fields))
-    (option_and_then output_of (field WITNESS_UTXO fields))
+    (option_and_then network_transaction_of (field IN_NON_WITNESS_UTXO fields))
+    (option_and_then output_of (field IN_WITNESS_UTXO fields))
     outpoint
 
 -- ---- amounts

@@ -6,6 +6,7 @@ use Rattle.def_script.specs.Bytes.{Bytes}
 use Rattle.def_tree.specs.Tree.{Key}
 use Rattle.def_descriptor.specs.Expression.{Origin}
 use Rattle.def_psbt.specs.Map.{Pair, Map}
+use Rattle.def_psbt.specs.Types.{IN_REDEEM_SCRIPT, IN_WITNESS_SCRIPT, IN_BIP32_DERIVATION, OUT_REDEEM_SCRIPT, OUT_WITNESS_SCRIPT, OUT_BIP32_DERIVATION}
 
 -- an output's script; behind P2SH its redeem script, and of the P2WSH kinds its witness script; and its keys, each with where it comes from
 pub record Known : Type 0 where
@@ -21,10 +22,10 @@ pub record Types : Type 0 where
   pub bip32_derivation : ℕ
 
 abbrev pub INPUT : Types
-INPUT = record { redeem_script = 0x04; witness_script = 0x05; bip32_derivation = 0x06 }
+INPUT = record { redeem_script = IN_REDEEM_SCRIPT; witness_script = IN_WITNESS_SCRIPT; bip32_derivation = IN_BIP32_DERIVATION }
 
 abbrev pub OUTPUT : Types
-OUTPUT = record { redeem_script = 0x00; witness_script = 0x01; bip32_derivation = 0x02 }
+OUTPUT = record { redeem_script = OUT_REDEEM_SCRIPT; witness_script = OUT_WITNESS_SCRIPT; bip32_derivation = OUT_BIP32_DERIVATION }
 
 -- a pair of a type whose number is one byte
 abbrev pub typed : (type : ℕ) → (key_data value : Bytes) → Pair

@@ -4,7 +4,8 @@ use Rattle.std.specs.Str.{bytes_eq}
 use Rattle.def_script.specs.Bytes.{Bytes}
 use Rattle.def_machine.specs.Program.{program_of}
 use Rattle.def_psbt.specs.Forms.{witness_of}
-use Rattle.def_spend.specs.Fields.{FINAL_SCRIPTSIG, field}
+use Rattle.def_psbt.specs.Types.{IN_FINAL_SCRIPTSIG}
+use Rattle.def_spend.specs.Fields.{field}
 use Rattle.def_spend.specs.Finalized.{final_witness}
 use Rattle.def_spend.specs.Input.{Spend}
 use Rattle.def_spend.specs.Kinds.{is_p2sh, p2sh_of, is_script_hash, is_key_hash}
@@ -16,7 +17,7 @@ use Rattle.def_verify.specs.declared.Flaw.TheVariants as flaw
 
 -- the final scriptSig, which is empty where there is none
 abbrev pub final_script_sig : Spend → Bytes
-final_script_sig spend = unwrap_or (field FINAL_SCRIPTSIG spend.fields) []
+final_script_sig spend = unwrap_or (field IN_FINAL_SCRIPTSIG spend.fields) []
 
 -- the items of the final witness, bottom first: none where there is no final witness
 abbrev pub final_items : Spend → List Bytes

@@ -8,10 +8,8 @@ ghost use Rattle.def_psbt.specs.Listed.{global_form};
 ghost use Rattle.def_psbt.specs.Map.{Map, magic, map_text, type_of};
 
 use crate::pairs::{first_pair, tail};
+use def_psbt::types;
 use ms_psbt::first_size;
-
-/// The type of the pair that tells the version (BIP 174: `PSBT_GLOBAL_VERSION`).
-const VERSION: u64 = 0xfb;
 
 /// The version that a global map behind the magic tells: the number of its pair fb, and 0 without it.
 pub fn version_in(before_inputs: &[u8]) -> u32
@@ -19,7 +17,7 @@ pub fn version_in(before_inputs: &[u8]) -> u32
 {
     let mut left = tail(before_inputs, 5);
     'pairs: while let Some((key, value, rest)) = first_pair(left) {
-        if key_type(key) == VERSION {
+        if key_type(key) == types::GLOBAL_VERSION {
             return number_in(value);
         }
         left = rest;

@@ -17,7 +17,8 @@ use Rattle.def_psbt.specs.Map.{Pair, Map, type_of, data_of, data_read}
 use Rattle.def_psbt.specs.Forms.{is_signature}
 use Rattle.def_psbt.specs.Listed.{Form, stands, passes, input_form, shape_fault, pair_fault}
 use Rattle.def_psbt.specs.Laws.{IsSoundMap}
-use Rattle.def_spend.specs.Fields.{PARTIAL_SIG, BIP32_DERIVATION, has_type, is_signed, signatures_in, has_key, keys_in, is_preimage_pair, preimages_in}
+use Rattle.def_psbt.specs.Types.{IN_PARTIAL_SIG, IN_BIP32_DERIVATION}
+use Rattle.def_spend.specs.Fields.{has_type, is_signed, signatures_in, has_key, keys_in, is_preimage_pair, preimages_in}
 use Rattle.def_spend.specs.declared.Verification.{Verification}
 use Rattle.def_spend.specs.declared.Verification.TheVariants.{Verified, Unverified}
 use Rattle.def_spend.specs.Input.{Spend, locks_of}
@@ -51,7 +52,7 @@ pub keys_are : (fields : Map) → IsMapOfBytes fields → All IsKey (keys_in fie
 keys_are fields fits =
     All-from_recursion IsKey (keys_in fields)
     (each_kept IsPairOfBytes IsKey has_key (λ pair. data_of pair.key) (λ pair test h. record {
-      form = (and_parts (has_type PARTIAL_SIG pair || has_type BIP32_DERIVATION pair) (is_key (data_of pair.key)) test).1;
+      form = (and_parts (has_type IN_PARTIAL_SIG pair || has_type IN_BIP32_DERIVATION pair) (is_key (data_of pair.key)) test).1;
       bytes = data_bytes pair.key h.0;
     }) fields (recursion_from_All IsPairOfBytes fields fits))
 
@@ -80,7 +81,7 @@ passed true e = refl
 passed false e = absurd cc
 
 -- the value of a pair of the type of signatures is one
-pub signature_form : (version : PsbtVersion) (pair : Pair) → HasShape (input_form version) pair → has_type PARTIAL_SIG pair ≡ true → is_signature pair.value ≡ true
+pub signature_form : (version : PsbtVersion) (pair : Pair) → HasShape (input_form version) pair → has_type IN_PARTIAL_SIG pair ≡ true → is_signature pair.value ≡ true
 unfolding input_form shape_fault
 signature_form version pair shape is = grind arith
 
@@ -103,7 +104,7 @@ differ forms first before after (pair ∷ map) h = (
     other (x ∷ before) e = other before (or_parts (bytes_eq pair.key x.key) (stands pair.key (before ++ first ∷ after)) e).1
 
 -- of two pairs of signatures, with different keys, the keys that sign differ
-keys_differ : (first pair : Pair) → IsPairOfBytes first → IsPairOfBytes pair → has_type PARTIAL_SIG first ≡ true → has_type PARTIAL_SIG pair ≡ true
+keys_differ : (first pair : Pair) → IsPairOfBytes first → IsPairOfBytes pair → has_type IN_PARTIAL_SIG first ≡ true → has_type IN_PARTIAL_SIG pair ≡ true
     → bytes_eq pair.key first.key ≡ false → bytes_eq (data_of first.key) (data_of pair.key) ≡ false
 keys_differ first pair fits own signs_first signs other = false_from_ne_true _ (λ e.
     let same_data = (bytes_eq-Decides (data_of first.key) (data_of pair.key)).0 e in
@@ -115,8 +116,8 @@ keys_differ first pair fits own signs_first signs other = false_from_ne_true _ (
 abbrev pub signature : Pair → Bytes × Bytes
 signature pair = (data_of pair.key, pair.value)
 
-signs : (pair : Pair) → is_signed pair ≡ true → has_type PARTIAL_SIG pair ≡ true
-signs pair e = (and_parts (has_type PARTIAL_SIG pair) (is_key (data_of pair.key)) e).0
+signs : (pair : Pair) → is_signed pair ≡ true → has_type IN_PARTIAL_SIG pair ≡ true
+signs pair e = (and_parts (has_type IN_PARTIAL_SIG pair) (is_key (data_of pair.key)) e).0
 
 later_differ : (first : Pair) (fields : Map) → IsPairOfBytes first → is_signed first ≡ true → AllByRecursion IsPairOfBytes fields
     → AllByRecursion (λ (pair : Pair). bytes_eq pair.key first.key ≡ false) fields
@@ -158,7 +159,7 @@ all_are version spend locks sound fits =
     record {
       keys = All-from_recursion (λ pair. IsKey pair.0) (signatures_in spend.fields)
           (each_kept IsPairOfBytes (λ pair. IsKey pair.0) is_signed signature (λ pair test h. record {
-            form = (and_parts (has_type PARTIAL_SIG pair) (is_key (data_of pair.key)) test).1;
+            form = (and_parts (has_type IN_PARTIAL_SIG pair) (is_key (data_of pair.key)) test).1;
             bytes = data_bytes pair.key h.0;
           }) spend.fields all);
       signatures = All-from_recursion (λ pair. IsSignature pair.1) (signatures_in spend.fields)

@@ -5,7 +5,8 @@ use Rattle.std.proofs.lemmas.Bool.{eqb-true}
 use Rattle.def_script.specs.Bytes.{Bytes}
 use Rattle.def_script.specs.Key.{is_key}
 use Rattle.def_psbt.specs.Map.{Pair, Map, type_of, data_of}
-use Rattle.def_spend.specs.Fields.{NON_WITNESS_UTXO, WITNESS_UTXO, PARTIAL_SIG, SIGHASH_TYPE, REDEEM_SCRIPT, WITNESS_SCRIPT, BIP32_DERIVATION, FINAL_SCRIPTSIG, FINAL_SCRIPTWITNESS, RIPEMD160, HASH256, is_between, has_type, field, is_signed, signatures_in, has_key, keys_in, is_preimage_pair, preimages_in}
+use Rattle.def_psbt.specs.Types.{IN_NON_WITNESS_UTXO, IN_WITNESS_UTXO, IN_PARTIAL_SIG, IN_SIGHASH_TYPE, IN_REDEEM_SCRIPT, IN_WITNESS_SCRIPT, IN_BIP32_DERIVATION, IN_FINAL_SCRIPTSIG, IN_FINAL_SCRIPTWITNESS, IN_RIPEMD160, IN_HASH256}
+use Rattle.def_spend.specs.Fields.{is_between, has_type, field, is_signed, signatures_in, has_key, keys_in, is_preimage_pair, preimages_in}
 use Rattle.ms_input.specs.Held.{Held, held_in, Adds}
 use Rattle.ms_input.specs.Kinds.{kind_of}
 use Rattle.ms_input.specs.Adding.{first_of, added}
@@ -68,50 +69,50 @@ chosen-with_pair {A} test change (x ∷ xs) key value =
 
 abbrev pub grown : (type : ℕ) → Held → (data_bytes value : Bytes) → Held
 grown type held data_bytes value = record {
-  previous = picked (type == NON_WITNESS_UTXO) held.previous value;
-  output = picked (type == WITNESS_UTXO) held.output value;
-  asked = picked (type == SIGHASH_TYPE) held.asked value;
-  redeem = picked (type == REDEEM_SCRIPT) held.redeem value;
-  script = picked (type == WITNESS_SCRIPT) held.script value;
-  final_script_sig = picked (type == FINAL_SCRIPTSIG) held.final_script_sig value;
-  final_witness = picked (type == FINAL_SCRIPTWITNESS) held.final_witness value;
-  pairs = more ((type == PARTIAL_SIG) && is_key data_bytes) held.pairs (data_bytes, value);
-  keys = more (((type == PARTIAL_SIG) || (type == BIP32_DERIVATION)) && is_key data_bytes) held.keys data_bytes;
-  preimages = more (is_between RIPEMD160 HASH256 type && (length value == 32)) held.preimages value;
+  previous = picked (type == IN_NON_WITNESS_UTXO) held.previous value;
+  output = picked (type == IN_WITNESS_UTXO) held.output value;
+  asked = picked (type == IN_SIGHASH_TYPE) held.asked value;
+  redeem = picked (type == IN_REDEEM_SCRIPT) held.redeem value;
+  script = picked (type == IN_WITNESS_SCRIPT) held.script value;
+  final_script_sig = picked (type == IN_FINAL_SCRIPTSIG) held.final_script_sig value;
+  final_witness = picked (type == IN_FINAL_SCRIPTWITNESS) held.final_witness value;
+  pairs = more ((type == IN_PARTIAL_SIG) && is_key data_bytes) held.pairs (data_bytes, value);
+  keys = more (((type == IN_PARTIAL_SIG) || (type == IN_BIP32_DERIVATION)) && is_key data_bytes) held.keys data_bytes;
+  preimages = more (is_between IN_RIPEMD160 IN_HASH256 type && (length value == 32)) held.preimages value;
 }
 
 held-with_pair : (fields : Map) (key value : Bytes) → held_in (with_pair fields key value) ≡ grown (type_of key) (held_in fields) (data_of key) value
 held-with_pair fields key value =
     let now = grown (type_of key) (held_in fields) (data_of key) value in
     let all = with_pair fields key value in
-    ap (λ x. record (held_in all) { previous = x }) (field-with_pair NON_WITNESS_UTXO fields key value)
-    ∙ ap (λ x. record (held_in all) { previous = now.previous; output = x }) (field-with_pair WITNESS_UTXO fields key value)
-    ∙ ap (λ x. record (held_in all) { previous = now.previous; output = now.output; asked = x }) (field-with_pair SIGHASH_TYPE fields key value)
+    ap (λ x. record (held_in all) { previous = x }) (field-with_pair IN_NON_WITNESS_UTXO fields key value)
+    ∙ ap (λ x. record (held_in all) { previous = now.previous; output = x }) (field-with_pair IN_WITNESS_UTXO fields key value)
+    ∙ ap (λ x. record (held_in all) { previous = now.previous; output = now.output; asked = x }) (field-with_pair IN_SIGHASH_TYPE fields key value)
     ∙ ap (λ x. record now {
       redeem = x;
-      script = field WITNESS_SCRIPT all;
-      final_script_sig = field FINAL_SCRIPTSIG all;
-      final_witness = field FINAL_SCRIPTWITNESS all;
+      script = field IN_WITNESS_SCRIPT all;
+      final_script_sig = field IN_FINAL_SCRIPTSIG all;
+      final_witness = field IN_FINAL_SCRIPTWITNESS all;
       pairs =
           signatures_in all;
       keys = keys_in all;
       preimages = preimages_in all;
     })
-    (field-with_pair REDEEM_SCRIPT fields key value)
+    (field-with_pair IN_REDEEM_SCRIPT fields key value)
     ∙ ap (λ x. record now {
       script = x;
-      final_script_sig = field FINAL_SCRIPTSIG all;
-      final_witness = field FINAL_SCRIPTWITNESS all;
+      final_script_sig = field IN_FINAL_SCRIPTSIG all;
+      final_witness = field IN_FINAL_SCRIPTWITNESS all;
       pairs =
           signatures_in all;
       keys = keys_in all;
       preimages = preimages_in all;
     })
-    (field-with_pair WITNESS_SCRIPT fields key value)
-    ∙ ap (λ x. record now { final_script_sig = x; final_witness = field FINAL_SCRIPTWITNESS all; pairs = signatures_in all; keys = keys_in all; preimages = preimages_in all })
-    (field-with_pair FINAL_SCRIPTSIG fields key value)
+    (field-with_pair IN_WITNESS_SCRIPT fields key value)
+    ∙ ap (λ x. record now { final_script_sig = x; final_witness = field IN_FINAL_SCRIPTWITNESS all; pairs = signatures_in all; keys = keys_in all; preimages = preimages_in all })
+    (field-with_pair IN_FINAL_SCRIPTSIG fields key value)
     ∙ ap (λ x. record now { final_witness = x; pairs = signatures_in all; keys = keys_in all; preimages = preimages_in all })
-    (field-with_pair FINAL_SCRIPTWITNESS fields key value)
+    (field-with_pair IN_FINAL_SCRIPTWITNESS fields key value)
     ∙ ap (λ x. record now { pairs = x; keys = keys_in all; preimages = preimages_in all })
     (chosen-with_pair is_signed (λ (pair : Pair). (data_of pair.key, pair.value)) fields key value)
     ∙ ap (λ x. record now { keys = x; preimages = preimages_in all }) (chosen-with_pair has_key (λ (pair : Pair). data_of pair.key) fields key value)
@@ -126,7 +127,7 @@ IsGrown held data_bytes value type = added (kind_of type) held data_bytes value 
 at : (held : Held) (data_bytes value : Bytes) (type literal : ℕ) → (type == literal) ≡ true → IsGrown held data_bytes value literal → IsGrown held data_bytes value type
 at held data_bytes value type literal e h = subst (IsGrown held data_bytes value) (sym (eqb-true type literal e)) h
 
-signature_grown : (held : Held) (data_bytes value : Bytes) → IsGrown held data_bytes value PARTIAL_SIG
+signature_grown : (held : Held) (data_bytes value : Bytes) → IsGrown held data_bytes value IN_PARTIAL_SIG
 signature_grown held data_bytes value = go (is_key data_bytes)
   where
     go : (b : Bool) → (if b then record held { keys = held.keys ++ data_bytes ∷ []; pairs = held.pairs ++ (data_bytes, value) ∷ [] } else held)
@@ -134,7 +135,7 @@ signature_grown held data_bytes value = go (is_key data_bytes)
     go true = refl
     go false = refl
 
-derivation_grown : (held : Held) (data_bytes value : Bytes) → IsGrown held data_bytes value BIP32_DERIVATION
+derivation_grown : (held : Held) (data_bytes value : Bytes) → IsGrown held data_bytes value IN_BIP32_DERIVATION
 derivation_grown held data_bytes value = go (is_key data_bytes)
   where
     go : (b : Bool) → (if b then record held { keys = held.keys ++ data_bytes ∷ [] } else held) ≡ record held { keys = more b held.keys data_bytes }
@@ -156,16 +157,16 @@ tell false is isn't = isn't refl
 
 is_grown : (held : Held) (data_bytes value : Bytes) (type : ℕ) → IsGrown held data_bytes value type
 is_grown held data_bytes value type =
-    tell (type == NON_WITNESS_UTXO) (λ e. at held data_bytes value type NON_WITNESS_UTXO e refl) (λ e0.
-    tell (type == WITNESS_UTXO) (λ e. at held data_bytes value type WITNESS_UTXO e refl) (λ e1.
-    tell (type == PARTIAL_SIG) (λ e. at held data_bytes value type PARTIAL_SIG e (signature_grown held data_bytes value)) (λ e2.
-    tell (type == SIGHASH_TYPE) (λ e. at held data_bytes value type SIGHASH_TYPE e refl) (λ e3.
-    tell (type == REDEEM_SCRIPT) (λ e. at held data_bytes value type REDEEM_SCRIPT e refl) (λ e4.
-    tell (type == WITNESS_SCRIPT) (λ e. at held data_bytes value type WITNESS_SCRIPT e refl) (λ e5.
-    tell (type == BIP32_DERIVATION) (λ e. at held data_bytes value type BIP32_DERIVATION e (derivation_grown held data_bytes value)) (λ e6.
-    tell (type == FINAL_SCRIPTSIG) (λ e. at held data_bytes value type FINAL_SCRIPTSIG e refl) (λ e7.
-    tell (type == FINAL_SCRIPTWITNESS) (λ e. at held data_bytes value type FINAL_SCRIPTWITNESS e refl) (λ e8.
-    tell (is_between RIPEMD160 HASH256 type)
+    tell (type == IN_NON_WITNESS_UTXO) (λ e. at held data_bytes value type IN_NON_WITNESS_UTXO e refl) (λ e0.
+    tell (type == IN_WITNESS_UTXO) (λ e. at held data_bytes value type IN_WITNESS_UTXO e refl) (λ e1.
+    tell (type == IN_PARTIAL_SIG) (λ e. at held data_bytes value type IN_PARTIAL_SIG e (signature_grown held data_bytes value)) (λ e2.
+    tell (type == IN_SIGHASH_TYPE) (λ e. at held data_bytes value type IN_SIGHASH_TYPE e refl) (λ e3.
+    tell (type == IN_REDEEM_SCRIPT) (λ e. at held data_bytes value type IN_REDEEM_SCRIPT e refl) (λ e4.
+    tell (type == IN_WITNESS_SCRIPT) (λ e. at held data_bytes value type IN_WITNESS_SCRIPT e refl) (λ e5.
+    tell (type == IN_BIP32_DERIVATION) (λ e. at held data_bytes value type IN_BIP32_DERIVATION e (derivation_grown held data_bytes value)) (λ e6.
+    tell (type == IN_FINAL_SCRIPTSIG) (λ e. at held data_bytes value type IN_FINAL_SCRIPTSIG e refl) (λ e7.
+    tell (type == IN_FINAL_SCRIPTWITNESS) (λ e. at held data_bytes value type IN_FINAL_SCRIPTWITNESS e refl) (λ e8.
+    tell (is_between IN_RIPEMD160 IN_HASH256 type)
     (λ e. rw (e0, e1, e2, e3, e4, e5, e6, e7, e8, e) (preimage_grown held value))
     (λ e. rw (e0, e1, e2, e3, e4, e5, e6, e7, e8, e) refl))))))))))
 

@@ -6,7 +6,8 @@ use Rattle.def_script.specs.Bytes.{Bytes}
 use Rattle.def_machine.specs.Program.{program_of}
 use Rattle.def_spend.specs.declared.State.{State}
 use Rattle.def_spend.specs.declared.State.TheVariants as state
-use Rattle.def_spend.specs.Fields.{REDEEM_SCRIPT, WITNESS_SCRIPT, field}
+use Rattle.def_psbt.specs.Types.{IN_REDEEM_SCRIPT, IN_WITNESS_SCRIPT}
+use Rattle.def_spend.specs.Fields.{field}
 use Rattle.def_spend.specs.Utxo.{Utxo}
 use Rattle.def_spend.specs.Utxo as utxo
 use Rattle.def_spend.specs.Input.{Spend}
@@ -65,4 +66,4 @@ is_told spend = go (has_final spend.fields)
   where
     go : (b : Bool) → IsTold (if b then Err state.Final else open_script spend)
     go true = refl
-    go false = told_with (spent_program spend) (field WITNESS_SCRIPT spend.fields) (told_utxo (spent_utxo spend) (field REDEEM_SCRIPT spend.fields))
+    go false = told_with (spent_program spend) (field IN_WITNESS_SCRIPT spend.fields) (told_utxo (spent_utxo spend) (field IN_REDEEM_SCRIPT spend.fields))

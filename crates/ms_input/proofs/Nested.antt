@@ -7,7 +7,8 @@ use Rattle.def_script.specs.Bytes.{Bytes}
 use Rattle.def_spend.specs.declared.Kind.{Kind}
 use Rattle.def_spend.specs.declared.Kind.TheVariants as kind
 use Rattle.def_spend.specs.declared.State.TheVariants as state
-use Rattle.def_spend.specs.Fields.{REDEEM_SCRIPT, field}
+use Rattle.def_psbt.specs.Types.{IN_REDEEM_SCRIPT}
+use Rattle.def_spend.specs.Fields.{field}
 use Rattle.def_spend.specs.Utxo.{Utxo}
 use Rattle.def_spend.specs.Utxo as utxo
 use Rattle.def_spend.specs.Input.{Spend}
@@ -78,9 +79,9 @@ short_utxo (utxo.proved output) o = short_output output.script o
 short_utxo (utxo.claimed output) o = short_output output.script o
 
 pub redeem_is_short : (spend : Spend) → (kind_of spend ≡ kind.P2shP2wsh) ⊎ (kind_of spend ≡ kind.P2shP2wpkh)
-    → length (unwrap_or (field REDEEM_SCRIPT spend.fields) []) < 76
-redeem_is_short spend is = short_utxo (spent_utxo spend) (field REDEEM_SCRIPT spend.fields) is
+    → length (unwrap_or (field IN_REDEEM_SCRIPT spend.fields) []) < 76
+redeem_is_short spend is = short_utxo (spent_utxo spend) (field IN_REDEEM_SCRIPT spend.fields) is
 
-pub open_is : (spend : Spend) (one : Kind) (redeem : Bytes) → one ≡ kind_of spend → redeem ≡ unwrap_or (field REDEEM_SCRIPT spend.fields) []
+pub open_is : (spend : Spend) (one : Kind) (redeem : Bytes) → one ≡ kind_of spend → redeem ≡ unwrap_or (field IN_REDEEM_SCRIPT spend.fields) []
     → script_sig_by one redeem ≡ open_script_sig spend
-open_is spend one redeem same held = ap (script_sig_by one) held ∙ ap (λ k. script_sig_by k (bytes_in (field REDEEM_SCRIPT spend.fields))) same
+open_is spend one redeem same held = ap (script_sig_by one) held ∙ ap (λ k. script_sig_by k (bytes_in (field IN_REDEEM_SCRIPT spend.fields))) same

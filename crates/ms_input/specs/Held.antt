@@ -6,7 +6,8 @@ use Rattle.def_machine.specs.Stacks.{Pairs}
 use Rattle.def_assets.specs.Assets.{Assets}
 use Rattle.def_tree.specs.Tree.{Key}
 use Rattle.def_psbt.specs.Map.{Map}
-use Rattle.def_spend.specs.Fields.{NON_WITNESS_UTXO, WITNESS_UTXO, SIGHASH_TYPE, REDEEM_SCRIPT, WITNESS_SCRIPT, FINAL_SCRIPTSIG, FINAL_SCRIPTWITNESS, field, signatures_in, keys_in, preimages_in}
+use Rattle.def_psbt.specs.Types.{IN_NON_WITNESS_UTXO, IN_WITNESS_UTXO, IN_SIGHASH_TYPE, IN_REDEEM_SCRIPT, IN_WITNESS_SCRIPT, IN_FINAL_SCRIPTSIG, IN_FINAL_SCRIPTWITNESS}
+use Rattle.def_spend.specs.Fields.{field, signatures_in, keys_in, preimages_in}
 
 pub record Held : Type 0 where
   -- the previous transaction, and the spent output
@@ -24,13 +25,13 @@ pub record Held : Type 0 where
 -- what a map holds
 abbrev pub held_in : (fields : Map) → Held
 held_in fields = record {
-  previous = field NON_WITNESS_UTXO fields;
-  output = field WITNESS_UTXO fields;
-  asked = field SIGHASH_TYPE fields;
-  redeem = field REDEEM_SCRIPT fields;
-  script = field WITNESS_SCRIPT fields;
-  final_script_sig = field FINAL_SCRIPTSIG fields;
-  final_witness = field FINAL_SCRIPTWITNESS fields;
+  previous = field IN_NON_WITNESS_UTXO fields;
+  output = field IN_WITNESS_UTXO fields;
+  asked = field IN_SIGHASH_TYPE fields;
+  redeem = field IN_REDEEM_SCRIPT fields;
+  script = field IN_WITNESS_SCRIPT fields;
+  final_script_sig = field IN_FINAL_SCRIPTSIG fields;
+  final_witness = field IN_FINAL_SCRIPTWITNESS fields;
   pairs = signatures_in fields;
   keys = keys_in fields;
   preimages = preimages_in fields;

@@ -3,7 +3,8 @@
 ghost use Rattle.std.specs.Prelude.{◌≡◌, ◌<◌, ◌≤◌, ◌^◌, true, [], Some, None, length, slice_get, if◌then◌else◌, All, IfOk, IfSome, option_map, unwrap_or};
 ghost use Rattle.def_script.specs.Witness.{weight};
 ghost use Rattle.def_promises.specs.Accepted.{Unchangeable};
-ghost use Rattle.def_spend.specs.Fields.{FINAL_SCRIPTSIG, field, signatures_in, asked_type as the_asked_type};
+ghost use Rattle.def_psbt.specs.Types.{IN_FINAL_SCRIPTSIG};
+ghost use Rattle.def_spend.specs.Fields.{field, signatures_in, asked_type as the_asked_type};
 ghost use Rattle.def_spend.specs.Finalized.{script_sig_of, witness_of, known_script_sig as the_known_script_sig};
 ghost use Rattle.def_spend.specs.Hashes.{hash_by as the_hash_by, script_in};
 ghost use Rattle.def_spend.specs.Good.{assets_of};
@@ -264,7 +265,7 @@ impl<'p, 't> Input<'p, 't> {
 
     // The final scriptSig of its map, or no byte.
     fn final_script_sig(&self) -> &'p [u8]
-        ensures { result.now ≡ unwrap_or (field FINAL_SCRIPTSIG self.now.spend.fields) [] }
+        ensures { result.now ≡ unwrap_or (field IN_FINAL_SCRIPTSIG self.now.spend.fields) [] }
     {
         bytes_or(self.fields.final_script_sig(), &[])
     }

@@ -10,6 +10,7 @@ ghost use Rattle.ms_psbt.specs.Scaffolding.Inputs.{AreFieldsOf};
 
 use crate::pairs::{pair_at, size_at};
 use crate::values::is_between;
+use def_psbt::types;
 
 /// What an input's map says of the transaction.
 #[derive(Clone, Copy)]
@@ -77,11 +78,15 @@ pub fn input_fields(psbt: &[u8], from: usize) -> InputFields<'_>
             return InputFields::none();
         };
         let key_type = pair.key_type();
-        if is_between(key_type, 0x0e, 0x12) {
+        if is_between(
+            key_type,
+            types::IN_PREVIOUS_TXID,
+            types::IN_REQUIRED_HEIGHT_LOCKTIME,
+        ) {
             let value = pair.value();
-            id = found_or(id, key_type == 0x0e, value);
-            index = found_or(index, key_type == 0x0f, value);
-            sequence = found_or(sequence, key_type == 0x10, value);
+            id = found_or(id, key_type == types::IN_PREVIOUS_TXID, value);
+            index = found_or(index, key_type == types::IN_OUTPUT_INDEX, value);
+            sequence = found_or(sequence, key_type == types::IN_SEQUENCE, value);
             is_locked = is_lock(is_locked, key_type);
         }
         at = next;
@@ -92,5 +97,7 @@ pub fn input_fields(psbt: &[u8], from: usize) -> InputFields<'_>
 fn is_lock(was_before: bool, key_type: u64) -> bool
     ensures { result ≡ (was_before || (key_type == 0x11 || key_type == 0x12)) }
 {
-    was_before || key_type == 0x11 || key_type == 0x12
+    was_before
+        || key_type == types::IN_REQUIRED_TIME_LOCKTIME
+        || key_type == types::IN_REQUIRED_HEIGHT_LOCKTIME
 }

@@ -10,7 +10,7 @@ use crate::pairs::PairRef;
 use crate::parts::first_size;
 use crate::signature::is_signature;
 use crate::transaction::{is_network_transaction, is_output, is_unsigned, is_witness};
-use def_psbt::{PsbtFault, PsbtVersion};
+use def_psbt::{PsbtFault, PsbtVersion, types};
 use ms_hash::HashKind;
 use std::alloc::{AllocError, Global};
 
@@ -86,11 +86,17 @@ fn global_fault(
     ensures { IfOk result (λ fault. fault ≡ fault_by (global_form type_number) key_data.now value.now) }
 {
     match type_number {
-        0x00 => Ok(passes(key_data.is_empty(), is_unsigned(alloc, value)?)),
-        0x02 | 0x03 => Ok(passes(key_data.is_empty(), value.len() == 4)),
-        0x04 | 0x05 => Ok(passes(key_data.is_empty(), is_size(value))),
-        0x06 => Ok(passes(key_data.is_empty(), value.len() == 1)),
-        0xfb => Ok(if key_data.is_empty() {
+        types::GLOBAL_UNSIGNED_TX => Ok(passes(key_data.is_empty(), is_unsigned(alloc, value)?)),
+        types::GLOBAL_TX_VERSION | types::GLOBAL_FALLBACK_LOCKTIME => Ok(passes(
+            key_data.is_empty(),
+            value.len() == 4,
+        )),
+        types::GLOBAL_INPUT_COUNT | types::GLOBAL_OUTPUT_COUNT => Ok(passes(
+            key_data.is_empty(),
+            is_size(value),
+        )),
+        types::GLOBAL_TX_MODIFIABLE => Ok(passes(key_data.is_empty(), value.len() == 1)),
+        types::GLOBAL_VERSION => Ok(if key_data.is_empty() {
             version_fault(value)
         } else {
             Some(PsbtFault::KeyForm)
@@ -119,21 +125,33 @@ fn input_fault(
     ensures { result ≡ fault_by (input_form version type_number) key_data.now value.now }
 {
     match type_number {
-        0x00 => passes(key_data.is_empty(), is_network_transaction(value)),
-        0x01 => passes(key_data.is_empty(), is_output(value)),
-        0x02 => passes(is_public_key(key_data), is_signature(value)),
-        0x03 => passes(key_data.is_empty(), value.len() == 4),
-        0x04 | 0x05 | 0x07 => passes(key_data.is_empty(), true),
-        0x06 => passes(is_public_key(key_data), is_derivation(value)),
-        0x08 => passes(key_data.is_empty(), is_witness(value)),
-        0x0a => preimage_fault(HashKind::Ripemd160, key_data, value),
-        0x0b => preimage_fault(HashKind::Sha256, key_data, value),
-        0x0c => preimage_fault(HashKind::Hash160, key_data, value),
-        0x0d => preimage_fault(HashKind::Hash256, key_data, value),
-        0x0e => later(version, passes(key_data.is_empty(), value.len() == 32)),
-        0x0f | 0x10 => later(version, passes(key_data.is_empty(), value.len() == 4)),
-        0x11 => later(version, passes(key_data.is_empty(), is_time(value))),
-        0x12 => later(version, passes(key_data.is_empty(), is_height(value))),
+        types::IN_NON_WITNESS_UTXO => passes(key_data.is_empty(), is_network_transaction(value)),
+        types::IN_WITNESS_UTXO => passes(key_data.is_empty(), is_output(value)),
+        types::IN_PARTIAL_SIG => passes(is_public_key(key_data), is_signature(value)),
+        types::IN_SIGHASH_TYPE => passes(key_data.is_empty(), value.len() == 4),
+        types::IN_REDEEM_SCRIPT | types::IN_WITNESS_SCRIPT | types::IN_FINAL_SCRIPTSIG => passes(
+            key_data.is_empty(),
+            true,
+        ),
+        types::IN_BIP32_DERIVATION => passes(is_public_key(key_data), is_derivation(value)),
+        types::IN_FINAL_SCRIPTWITNESS => passes(key_data.is_empty(), is_witness(value)),
+        types::IN_RIPEMD160 => preimage_fault(HashKind::Ripemd160, key_data, value),
+        types::IN_SHA256 => preimage_fault(HashKind::Sha256, key_data, value),
+        types::IN_HASH160 => preimage_fault(HashKind::Hash160, key_data, value),
+        types::IN_HASH256 => preimage_fault(HashKind::Hash256, key_data, value),
+        types::IN_PREVIOUS_TXID => later(version, passes(key_data.is_empty(), value.len() == 32)),
+        types::IN_OUTPUT_INDEX | types::IN_SEQUENCE => later(
+            version,
+            passes(key_data.is_empty(), value.len() == 4),
+        ),
+        types::IN_REQUIRED_TIME_LOCKTIME => later(
+            version,
+            passes(key_data.is_empty(), is_time(value)),
+        ),
+        types::IN_REQUIRED_HEIGHT_LOCKTIME => later(
+            version,
+            passes(key_data.is_empty(), is_height(value)),
+        ),
         _ => None,
     }
 }
@@ -148,10 +166,10 @@ fn output_fault(
     ensures { result ≡ fault_by (output_form version type_number) key_data.now value.now }
 {
     match type_number {
-        0x00 | 0x01 => passes(key_data.is_empty(), true),
-        0x02 => passes(is_public_key(key_data), is_derivation(value)),
-        0x03 => later(version, passes(key_data.is_empty(), value.len() == 8)),
-        0x04 => later(version, passes(key_data.is_empty(), true)),
+        types::OUT_REDEEM_SCRIPT | types::OUT_WITNESS_SCRIPT => passes(key_data.is_empty(), true),
+        types::OUT_BIP32_DERIVATION => passes(is_public_key(key_data), is_derivation(value)),
+        types::OUT_AMOUNT => later(version, passes(key_data.is_empty(), value.len() == 8)),
+        types::OUT_SCRIPT => later(version, passes(key_data.is_empty(), true)),
         _ => None,
     }
 }

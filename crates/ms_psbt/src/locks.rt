@@ -10,6 +10,7 @@ ghost use Rattle.ms_psbt.specs.Scaffolding.Locks.{is_meant};
 ghost use Rattle.ms_psbt.specs.Scaffolding.Maps.{InputsAt};
 
 use crate::values::{has, number_or, place_in};
+use def_psbt::types;
 
 /// Which inputs are meant.
 #[derive(Clone, Copy)]
@@ -24,7 +25,12 @@ pub enum Lock {
 fn has_lock(lock: Lock, psbt: &[u8], from: usize) -> bool
     ensures { (forms : ℕ → Form) (map : Map × ℕ) → map_at forms psbt.now from ≡ Ok map → result ≡ is_meant lock map.0 }
 {
-    match place_in(psbt, from, 0x11, 0x12) {
+    match place_in(
+        psbt,
+        from,
+        types::IN_REQUIRED_TIME_LOCKTIME,
+        types::IN_REQUIRED_HEIGHT_LOCKTIME,
+    ) {
         Some(_) => has_such_lock(lock, psbt, from),
         None => false,
     }
@@ -35,7 +41,12 @@ fn locks_alone(psbt: &[u8], from: usize) -> (bool, bool)
     ensures time { (forms : ℕ → Form) (map : Map × ℕ) → map_at forms psbt.now from ≡ Ok map → result.0 ≡ has_time_alone map.0 }
     ensures height { (forms : ℕ → Form) (map : Map × ℕ) → map_at forms psbt.now from ≡ Ok map → result.1 ≡ has_height_alone map.0 }
 {
-    match place_in(psbt, from, 0x11, 0x12) {
+    match place_in(
+        psbt,
+        from,
+        types::IN_REQUIRED_TIME_LOCKTIME,
+        types::IN_REQUIRED_HEIGHT_LOCKTIME,
+    ) {
         Some(_) => {
             let time = has_such_lock(Lock::TimeAlone, psbt, from);
             let height = has_such_lock(Lock::HeightAlone, psbt, from);
@@ -48,8 +59,8 @@ fn locks_alone(psbt: &[u8], from: usize) -> (bool, bool)
 fn has_such_lock(lock: Lock, psbt: &[u8], from: usize) -> bool
     ensures { (forms : ℕ → Form) (map : Map × ℕ) → map_at forms psbt.now from ≡ Ok map → result ≡ is_meant lock map.0 }
 {
-    let time = has(psbt, from, 0x11);
-    let height = has(psbt, from, 0x12);
+    let time = has(psbt, from, types::IN_REQUIRED_TIME_LOCKTIME);
+    let height = has(psbt, from, types::IN_REQUIRED_HEIGHT_LOCKTIME);
     match lock {
         Lock::TimeAlone => time && !height,
         Lock::HeightAlone => height && !time,
@@ -109,9 +120,9 @@ pub fn lock_time(psbt: &[u8], is_locked: bool, fallback: u32, places: &[u32]) ->
     if !is_locked {
         fallback
     } else if any_lock(Lock::TimeAlone, psbt, places) {
-        greatest(psbt, places, 0x11)
+        greatest(psbt, places, types::IN_REQUIRED_TIME_LOCKTIME)
     } else {
-        greatest(psbt, places, 0x12)
+        greatest(psbt, places, types::IN_REQUIRED_HEIGHT_LOCKTIME)
     }
 }
 

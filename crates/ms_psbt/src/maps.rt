@@ -14,7 +14,7 @@ use crate::pairs::{pair_at, size_at};
 use crate::repeats::{Keys, Marked, first_repeat};
 use crate::stop::ReadStop;
 use crate::values::has_both;
-use def_psbt::{PsbtFault, PsbtVersion, Refusal};
+use def_psbt::{PsbtFault, PsbtVersion, Refusal, types};
 use std::alloc::{AllocError, Global};
 
 /// What follows a pair.
@@ -113,8 +113,18 @@ fn has_needed(kind: MapKind, psbt: &[u8], from: usize) -> bool
     ensures { (map : Map × ℕ) → map_at (forms_of kind) psbt.now from ≡ Ok map → result ≡ has_types (needed_in kind) map.0 }
 {
     match kind {
-        MapKind::Input(PsbtVersion::Two) => has_both(psbt, from, 0x0e, 0x0f),
-        MapKind::Output(PsbtVersion::Two) => has_both(psbt, from, 0x03, 0x04),
+        MapKind::Input(PsbtVersion::Two) => has_both(
+            psbt,
+            from,
+            types::IN_PREVIOUS_TXID,
+            types::IN_OUTPUT_INDEX,
+        ),
+        MapKind::Output(PsbtVersion::Two) => has_both(
+            psbt,
+            from,
+            types::OUT_AMOUNT,
+            types::OUT_SCRIPT,
+        ),
         _ => true,
     }
 }

@@ -11,7 +11,7 @@ ghost use Rattle.ms_psbt.specs.Scaffolding.Outlines.{OutlineThere, OutlineReads}
 use crate::maps::no_transaction;
 use crate::transaction::transaction_counts;
 use crate::values::{has, number_or, place_in, size_of, value_in};
-use def_psbt::{PsbtFault, PsbtVersion, Refusal};
+use def_psbt::{PsbtFault, PsbtVersion, Refusal, types};
 
 /// The global map begins behind the magic.
 pub const GLOBAL_PLACE: usize = 5;
@@ -40,7 +40,7 @@ pub struct Outlined<'a> {
 pub fn version_in(psbt: &[u8]) -> PsbtVersion
     ensures { (map : Map × ℕ) → map_at global_form psbt.now 5 ≡ Ok map → result ≡ version_of map.0 }
 {
-    if number_or(psbt, GLOBAL_PLACE, 0xfb, 0) == 2 {
+    if number_or(psbt, GLOBAL_PLACE, types::GLOBAL_VERSION, 0) == 2 {
         PsbtVersion::Two
     } else {
         PsbtVersion::Zero
@@ -53,12 +53,22 @@ fn misplaced(version: PsbtVersion, psbt: &[u8]) -> Option<Refusal>
 {
     match version {
         PsbtVersion::Zero => {
-            let at = place_in(psbt, GLOBAL_PLACE, 0x02, 0x06)?;
+            let at = place_in(
+                psbt,
+                GLOBAL_PLACE,
+                types::GLOBAL_TX_VERSION,
+                types::GLOBAL_TX_MODIFIABLE,
+            )?;
             Some(Refusal::At(PsbtFault::Excluded, at))
         }
         PsbtVersion::Two => {
-            if has(psbt, GLOBAL_PLACE, 0x00) {
-                let at = place_in(psbt, GLOBAL_PLACE, 0xfb, 0xfb)?;
+            if has(psbt, GLOBAL_PLACE, types::GLOBAL_UNSIGNED_TX) {
+                let at = place_in(
+                    psbt,
+                    GLOBAL_PLACE,
+                    types::GLOBAL_VERSION,
+                    types::GLOBAL_VERSION,
+                )?;
                 Some(Refusal::At(PsbtFault::Version, at))
             } else {
                 None
@@ -71,7 +81,7 @@ fn misplaced(version: PsbtVersion, psbt: &[u8]) -> Option<Refusal>
 fn given_in(psbt: &[u8]) -> Option<Outlined<'_>>
     ensures { (map : Map × ℕ) → map_at global_form psbt.now 5 ≡ Ok map → OutlineThere result (the_outline_in Zero map.0) }
 {
-    let Some(value) = value_in(psbt, GLOBAL_PLACE, 0x00) else {
+    let Some(value) = value_in(psbt, GLOBAL_PLACE, types::GLOBAL_UNSIGNED_TX) else {
         return None;
     };
     let Some((inputs, outputs)) = transaction_counts(value) else {
@@ -88,7 +98,7 @@ fn given_in(psbt: &[u8]) -> Option<Outlined<'_>>
 fn counted_in(psbt: &[u8]) -> Option<Outlined<'_>>
     ensures { (map : Map × ℕ) → map_at global_form psbt.now 5 ≡ Ok map → OutlineThere result (the_outline_in Two map.0) }
 {
-    if has(psbt, GLOBAL_PLACE, 0x02) {
+    if has(psbt, GLOBAL_PLACE, types::GLOBAL_TX_VERSION) {
         counts_in(psbt)
     } else {
         None
@@ -99,10 +109,10 @@ fn counted_in(psbt: &[u8]) -> Option<Outlined<'_>>
 fn counts_in(psbt: &[u8]) -> Option<Outlined<'_>>
     ensures { (map : Map × ℕ) → map_at global_form psbt.now 5 ≡ Ok map → is_some (pair_of_type 0x02 map.0) ≡ true → OutlineThere result (the_outline_in Two map.0) }
 {
-    let Some(inputs) = value_in(psbt, GLOBAL_PLACE, 0x04) else {
+    let Some(inputs) = value_in(psbt, GLOBAL_PLACE, types::GLOBAL_INPUT_COUNT) else {
         return None;
     };
-    let Some(outputs) = value_in(psbt, GLOBAL_PLACE, 0x05) else {
+    let Some(outputs) = value_in(psbt, GLOBAL_PLACE, types::GLOBAL_OUTPUT_COUNT) else {
         return None;
     };
     Some(Outlined {

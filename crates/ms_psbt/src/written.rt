@@ -17,6 +17,7 @@ use crate::inputs::input_fields;
 use crate::locks::{either, lock_time};
 use crate::outline::GLOBAL_PLACE;
 use crate::values::{amount_in, bytes_or, number_by, number_or, value_or};
+use def_psbt::types;
 use ms_script::compact_size;
 use std::alloc::{AllocError, Global};
 
@@ -89,8 +90,8 @@ fn push_output(out: &mut Vec<u8>, psbt: &[u8], from: usize) -> Result<(), AllocE
     ensures { (map : Map × ℕ) → map_at (output_form Two) psbt.now from ≡ Ok map → has_types (needed_output Two) map.0 ≡ true
         → OnOk result (out.new.items ≡ out.old.items ++ output_text (output_of map.0)) }
 {
-    let amount = amount_in(psbt, from, 0x03);
-    let script = value_or(psbt, from, 0x04, &[]);
+    let amount = amount_in(psbt, from, types::OUT_AMOUNT);
+    let script = value_or(psbt, from, types::OUT_SCRIPT, &[]);
     push_amount(out, amount)?;
     push_sized(out, script)?;
     Ok(())
@@ -129,8 +130,8 @@ pub fn written_transaction(
     ensures locked { (at : ℕ) (maps : List Map) → InputsAt psbt.now at inputs.now maps → IfOk result (λ written. written.is_locked ≡ list_any has_lock maps) }
 {
     let mut bytes = Vec::with_capacity(alloc, psbt.len())?;
-    let version = number_or(psbt, GLOBAL_PLACE, 0x02, 0);
-    let fallback = number_or(psbt, GLOBAL_PLACE, 0x03, 0);
+    let version = number_or(psbt, GLOBAL_PLACE, types::GLOBAL_TX_VERSION, 0);
+    let fallback = number_or(psbt, GLOBAL_PLACE, types::GLOBAL_FALLBACK_LOCKTIME, 0);
     push_number(&mut bytes, version)?;
     let is_locked = push_inputs(&mut bytes, psbt, inputs)?;
     push_outputs(&mut bytes, psbt, outputs)?;

@@ -9,7 +9,8 @@ use Rattle.def_choice.specs.Strict.{strict}
 use Rattle.def_sane.specs.Unfit.{first_unfit, IsSane}
 use Rattle.def_spend.specs.declared.State.{State}
 use Rattle.def_spend.specs.declared.State.TheVariants as state
-use Rattle.def_spend.specs.Fields.{REDEEM_SCRIPT, WITNESS_SCRIPT, field, signatures_in, asked_type}
+use Rattle.def_psbt.specs.Types.{IN_REDEEM_SCRIPT, IN_WITNESS_SCRIPT}
+use Rattle.def_spend.specs.Fields.{field, signatures_in, asked_type}
 use Rattle.def_spend.specs.Input.{Spend}
 use Rattle.def_spend.specs.Good.{assets_of}
 use Rattle.def_spend.specs.Kinds.{is_p2sh, p2sh_of, redeemed, program_in, program_of_utxo, is_script_hash, is_key_hash, spent_utxo, spent_program}
@@ -65,7 +66,7 @@ early_with (Ok program) o early = early_script program o
 early_with (Err told) o early = early
 
 early_open : (spend : Spend) → IsEarly (open_script spend)
-early_open spend = early_with (spent_program spend) (field WITNESS_SCRIPT spend.fields) (early_utxo (spent_utxo spend) (field REDEEM_SCRIPT spend.fields))
+early_open spend = early_with (spent_program spend) (field IN_WITNESS_SCRIPT spend.fields) (early_utxo (spent_utxo spend) (field IN_REDEEM_SCRIPT spend.fields))
 
 -- ---- in which states the miniscript is sane
 

@@ -16,7 +16,8 @@ use Rattle.def_decode.specs.Decoded.{IsDecoded}
 use Rattle.def_psbt.specs.Transaction.{TransactionInput, Transaction}
 use Rattle.def_psbt.specs.Map.{Pair, Map, Psbt, type_of}
 use Rattle.def_spend.specs.declared.State.TheVariants as state
-use Rattle.def_spend.specs.Fields.{FINAL_SCRIPTWITNESS, FINAL_SCRIPTSIG, has_type, field, keys_in}
+use Rattle.def_psbt.specs.Types.{IN_FINAL_SCRIPTWITNESS, IN_FINAL_SCRIPTSIG}
+use Rattle.def_spend.specs.Fields.{has_type, field, keys_in}
 use Rattle.def_spend.specs.Hashes.{script_in}
 use Rattle.def_spend.specs.declared.Verification.{Verification}
 use Rattle.def_spend.specs.Good.{assets_of}
@@ -64,11 +65,11 @@ keeps_pairs input = elim (cases_Bool (is_ready (state_of input))) [
 ]
 
 -- no pair that is kept is a final witness
-kept_other : (type : ℕ) → not (is_cleared type) ≡ true → (type == FINAL_SCRIPTWITNESS) ≡ false
-kept_other type kept = ne_eqb type FINAL_SCRIPTWITNESS (λ same.
+kept_other : (type : ℕ) → not (is_cleared type) ≡ true → (type == IN_FINAL_SCRIPTWITNESS) ≡ false
+kept_other type kept = ne_eqb type IN_FINAL_SCRIPTWITNESS (λ same.
     let no : false ≡ true = subst (λ t. not (is_cleared t) ≡ true) same kept in cc)
 
-find_final : (fields : Map) (script_sig witness : Bytes) → find (has_type FINAL_SCRIPTWITNESS) (final_map fields script_sig witness) ≡ Some (witness_pair witness)
+find_final : (fields : Map) (script_sig witness : Bytes) → find (has_type IN_FINAL_SCRIPTWITNESS) (final_map fields script_sig witness) ≡ Some (witness_pair witness)
 unfolding read_size
 find_final [] [] witness = refl
 find_final [] (byte ∷ bytes) witness = refl
@@ -132,7 +133,7 @@ final_is_final input read ready =
     let fields = map_made input in
     let found = ap (option_map (λ (pair : Pair). pair.value)) (find_final input.spend.fields (script_sig_of input.spend) (witness_of input)) in
     let item = ap has_item found ∙ ap not (some_item input read ready) in
-    ap (λ b. has_byte (field FINAL_SCRIPTSIG fields) || b) item ∙ or-true (has_byte (field FINAL_SCRIPTSIG fields))
+    ap (λ b. has_byte (field IN_FINAL_SCRIPTSIG fields) || b) item ∙ or-true (has_byte (field IN_FINAL_SCRIPTSIG fields))
 
 -- ---- inputs that were written
 

@@ -17,7 +17,8 @@ use Rattle.def_psbt.specs.Forms as forms
 use Rattle.def_psbt.specs.Source.{MAX_SOURCE_SIZE, psbt_of}
 use Rattle.def_psbt.specs.Laws.{WrittenIsReadBack}
 use Rattle.def_spend.specs.declared.State.TheVariants as state
-use Rattle.def_spend.specs.Fields.{FINAL_SCRIPTSIG, FINAL_SCRIPTWITNESS, has_type, field}
+use Rattle.def_psbt.specs.Types.{IN_FINAL_SCRIPTSIG, IN_FINAL_SCRIPTWITNESS}
+use Rattle.def_spend.specs.Fields.{has_type, field}
 use Rattle.def_spend.specs.declared.Verification.{Verification}
 use Rattle.def_spend.specs.Input.{Spend, spends_from, spends_of}
 use Rattle.def_spend.specs.Reading.{Input, has_byte, has_item, has_final, open_script, HasReading, AreInputs}
@@ -64,22 +65,22 @@ found_behind cleared is (x ∷ xs) script_sig witness =
 abbrev value_in : Option Pair → Option Bytes
 value_in o = option_map (λ (pair : Pair). pair.value) o
 
-witness_behind : (script_sig witness : Bytes) → value_in (find (has_type FINAL_SCRIPTWITNESS) (final_pairs script_sig witness)) ≡ Some witness
+witness_behind : (script_sig witness : Bytes) → value_in (find (has_type IN_FINAL_SCRIPTWITNESS) (final_pairs script_sig witness)) ≡ Some witness
 unfolding read_size
 witness_behind [] witness = refl
 witness_behind (byte ∷ bytes) witness = refl
 
-script_sig_behind : (script_sig witness : Bytes) → unwrap_or (value_in (find (has_type FINAL_SCRIPTSIG) (final_pairs script_sig witness))) [] ≡ script_sig
+script_sig_behind : (script_sig witness : Bytes) → unwrap_or (value_in (find (has_type IN_FINAL_SCRIPTSIG) (final_pairs script_sig witness))) [] ≡ script_sig
 unfolding read_size
 script_sig_behind [] witness = refl
 script_sig_behind (byte ∷ bytes) witness = refl
 
-final_field : (fields : Map) (script_sig witness : Bytes) → field FINAL_SCRIPTWITNESS (final_map fields script_sig witness) ≡ Some witness
-final_field fields script_sig witness = ap value_in (found_behind FINAL_SCRIPTWITNESS refl fields script_sig witness) ∙ witness_behind script_sig witness
+final_field : (fields : Map) (script_sig witness : Bytes) → field IN_FINAL_SCRIPTWITNESS (final_map fields script_sig witness) ≡ Some witness
+final_field fields script_sig witness = ap value_in (found_behind IN_FINAL_SCRIPTWITNESS refl fields script_sig witness) ∙ witness_behind script_sig witness
 
-final_script_sig : (fields : Map) (script_sig witness : Bytes) → unwrap_or (field FINAL_SCRIPTSIG (final_map fields script_sig witness)) [] ≡ script_sig
+final_script_sig : (fields : Map) (script_sig witness : Bytes) → unwrap_or (field IN_FINAL_SCRIPTSIG (final_map fields script_sig witness)) [] ≡ script_sig
 final_script_sig fields script_sig witness =
-    ap (λ (o : Option Pair). unwrap_or (value_in o) []) (found_behind FINAL_SCRIPTSIG refl fields script_sig witness) ∙ script_sig_behind script_sig witness
+    ap (λ (o : Option Pair). unwrap_or (value_in o) []) (found_behind IN_FINAL_SCRIPTSIG refl fields script_sig witness) ∙ script_sig_behind script_sig witness
 
 -- the map of an input that is made final
 abbrev map_made : Input → Map
@@ -104,17 +105,17 @@ made_final : (input : Input) → IsFinalWitness input → has_final (map_made in
 made_final input w =
     let items = items_back (all_items w.stack w.last) (are_items w.stack w.last w.fits) in
     let other = some_item (witness_of input) (all_items w.stack w.last) (ap forms.witness_of w.is ∙ items) (omega (arith, length-append w.stack (w.last ∷ []))) in
-    let item : has_item (field FINAL_SCRIPTWITNESS (map_made input)) ≡ true =
+    let item : has_item (field IN_FINAL_SCRIPTWITNESS (map_made input)) ≡ true =
     ap has_item (final_field input.spend.fields (script_sig_of input.spend) (witness_of input)) ∙ ap not other in
-    ap (λ b. has_byte (field FINAL_SCRIPTSIG (map_made input)) || b) item ∙ or-true (has_byte (field FINAL_SCRIPTSIG (map_made input)))
+    ap (λ b. has_byte (field IN_FINAL_SCRIPTSIG (map_made input)) || b) item ∙ or-true (has_byte (field IN_FINAL_SCRIPTSIG (map_made input)))
 
 -- a Ready input is made final
 pub is_made_final : (input : Input) → IsGiven input → is_ready (state_of input) ≡ true → IsMadeFinal input
 is_made_final input given ready =
     let written = ap (λ b. if b then map_made input else input.spend.fields) ready in
     record {
-      witness = ap (field FINAL_SCRIPTWITNESS) written ∙ final_field input.spend.fields (script_sig_of input.spend) (witness_of input);
-      script_sig = ap (λ (made : Map). unwrap_or (field FINAL_SCRIPTSIG made) []) written ∙ final_script_sig input.spend.fields (script_sig_of input.spend) (witness_of input);
+      witness = ap (field IN_FINAL_SCRIPTWITNESS) written ∙ final_field input.spend.fields (script_sig_of input.spend) (witness_of input);
+      script_sig = ap (λ (made : Map). unwrap_or (field IN_FINAL_SCRIPTSIG made) []) written ∙ final_script_sig input.spend.fields (script_sig_of input.spend) (witness_of input);
       final = ap has_final written ∙ made_final input (final_witness input given ready);
     }
 

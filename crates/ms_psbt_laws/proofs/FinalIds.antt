@@ -12,7 +12,8 @@ use Rattle.def_psbt.specs.Laws.{IsSound}
 use Rattle.def_spend.specs.declared.Kind.TheVariants as kind
 use Rattle.def_spend.specs.declared.State.{State}
 use Rattle.def_spend.specs.declared.State.TheVariants as state
-use Rattle.def_spend.specs.Fields.{FINAL_SCRIPTSIG, REDEEM_SCRIPT, WITNESS_SCRIPT, field}
+use Rattle.def_psbt.specs.Types.{IN_FINAL_SCRIPTSIG, IN_REDEEM_SCRIPT, IN_WITNESS_SCRIPT}
+use Rattle.def_spend.specs.Fields.{field}
 use Rattle.def_spend.specs.declared.Verification.{Verification}
 use Rattle.def_spend.specs.Input.{Spend, spends_from, spends_of}
 use Rattle.def_spend.specs.Kinds.{is_script_hash, is_key_hash, is_nested, kind_with, spent_utxo, spent_program, script_sig_by, open_script_sig}
@@ -60,7 +61,7 @@ abbrev IsFinalMap : Map → Type 0
 IsFinalMap fields = has_final fields ≡ true
 
 abbrev sig_in : Map → Bytes
-sig_in fields = unwrap_or (field FINAL_SCRIPTSIG fields) []
+sig_in fields = unwrap_or (field IN_FINAL_SCRIPTSIG fields) []
 
 known_of_map : (spend : Spend) → IsFinalMap spend.fields → known_script_sig spend ≡ Some (sig_in spend.fields)
 known_of_map spend final = ap (λ b. if b then Some (sig_in spend.fields) else open_script_sig spend) final
@@ -90,14 +91,14 @@ bare_of (Some value) e = e
 -- where no final scriptSig has a byte, none of the maps has one
 none_has_byte : (verification : Verification) (transaction : Transaction) (number : ℕ) (ins : List TransactionInput) (maps : List Map) → length maps ≡ length ins
     → AllByRecursion IsFinalMap maps → has_script_sig (spends_from verification transaction number ins maps) ≡ false
-    → AllByRecursion (λ fields. has_byte (field FINAL_SCRIPTSIG fields) ≡ false) maps
+    → AllByRecursion (λ fields. has_byte (field IN_FINAL_SCRIPTSIG fields) ≡ false) maps
 none_has_byte verification transaction number ins [] same final e = tt
 none_has_byte verification transaction number [] (fields ∷ maps) same final e = absurd (omega (arith, same))
 none_has_byte verification transaction number (input ∷ ins) (fields ∷ maps) same final e =
     let spend : Spend = record { verification = verification; transaction = transaction; number = number; input = input; fields = fields } in
     let rest : List Spend = spends_from verification transaction (number + 1) ins maps in
     let parts = or_parts (has_byte (known_script_sig spend)) (has_script_sig rest) e in (
-      bare_of (field FINAL_SCRIPTSIG fields) (sym (ap has_byte (known_of_map spend final.0)) ∙ parts.0),
+      bare_of (field IN_FINAL_SCRIPTSIG fields) (sym (ap has_byte (known_of_map spend final.0)) ∙ parts.0),
       none_has_byte verification transaction (number + 1) ins maps (omega (arith, same)) final.1 parts.1,
     )
 
@@ -178,7 +179,7 @@ known_open spend script e = go (has_final spend.fields) refl
     go true is = absurd cc (sym (ap (λ b. code_unless b spend) is) ∙ e)
     go false is =
         let found : open_script spend ≡ Ok script = sym (ap (λ b. code_unless b spend) is) ∙ e in
-        let known = sig_is_known (is_nested (spent_utxo spend)) (unwrap_or (field REDEEM_SCRIPT spend.fields) []) (spent_program spend) (field WITNESS_SCRIPT spend.fields) script found in
+        let known = sig_is_known (is_nested (spent_utxo spend)) (unwrap_or (field IN_REDEEM_SCRIPT spend.fields) []) (spent_program spend) (field IN_WITNESS_SCRIPT spend.fields) script found in
         ap (λ b. if b then Some (sig_in spend.fields) else open_script_sig spend) is ∙ some_unwrapped (open_script_sig spend) known
 
 abbrev with_fields : Spend → Map → Spend

@@ -20,7 +20,8 @@ use Rattle.def_psbt.specs.Forms as forms
 use Rattle.def_psbt.specs.Listed.{global_form, input_form}
 use Rattle.def_psbt.specs.Reading.{input_rules, Outline, given, counted, outline_in, transaction_in_pair, transaction_in, transaction_by}
 use Rattle.def_psbt.specs.Laws.{IsSoundMap, IsWholeMap, IsSound}
-use Rattle.def_spend.specs.Fields.{FINAL_SCRIPTSIG, FINAL_SCRIPTWITNESS, has_type, field}
+use Rattle.def_psbt.specs.Types.{IN_FINAL_SCRIPTSIG, IN_FINAL_SCRIPTWITNESS}
+use Rattle.def_spend.specs.Fields.{has_type, field}
 use Rattle.def_spend.specs.Reading.{has_byte, has_item}
 use Rattle.def_spend.specs.Finalized.{final_inputs, final_transaction, final_witness, witnessed_text}
 use Rattle.ms_given_laws.specs.Given.{EachIsSound, IsInput, IsOutput, IsMapOfBytes, IsWhole}
@@ -69,34 +70,34 @@ empty_text : (0x00 ∷ []) ≡ items_text []
 unfolding size_bytes
 empty_text = refl
 
-witness_form : (version : PsbtVersion) (pair : Pair) → HasShape (input_form version) pair → has_type FINAL_SCRIPTWITNESS pair ≡ true → is_some (forms.witness_of pair.value) ≡ true
+witness_form : (version : PsbtVersion) (pair : Pair) → HasShape (input_form version) pair → has_type IN_FINAL_SCRIPTWITNESS pair ≡ true → is_some (forms.witness_of pair.value) ≡ true
 unfolding input_form
 witness_form version pair shape is =
     let type : type_of pair.key ≡ 0x08 = eqb-true (type_of pair.key) 0x08 is in
     passed (is_some (forms.witness_of pair.value)) (subst (λ (n : ℕ). (input_form version n).value (data_of pair.key) pair.value ≡ None) type (form_of (input_form version) pair shape).1)
 
 has_items : (fields : Map) → AllByRecursion IsGoodPair fields → HasItems fields
-has_items fields all = go (field FINAL_SCRIPTWITNESS fields) refl
+has_items fields all = go (field IN_FINAL_SCRIPTWITNESS fields) refl
   where
-    go : (o : Option Bytes) → field FINAL_SCRIPTWITNESS fields ≡ o → HasItems fields
+    go : (o : Option Bytes) → field IN_FINAL_SCRIPTWITNESS fields ≡ o → HasItems fields
     go None e =
         let none : final_witness fields ≡ 0x00 ∷ [] = ap (λ (o : Option Bytes). unwrap_or o (0x00 ∷ [])) e in
         record { items = []; are = empty_items; text = none ∙ empty_text; read = ap forms.witness_of none ∙ no_items }
     go (Some value) e =
-        let p = field_pair IsGoodPair FINAL_SCRIPTWITNESS fields value all e in
+        let p = field_pair IsGoodPair IN_FINAL_SCRIPTWITNESS fields value all e in
         let some = some_of (forms.witness_of p.0.value) (witness_form p.1.version p.0 p.1.shape p.2) in
         let told = witness_written p.0.value some.0 p.1.fits.1 some.1 in
         let is : final_witness fields ≡ p.0.value = ap (λ (o : Option Bytes). unwrap_or o (0x00 ∷ [])) e ∙ sym p.3 in
         record { items = some.0; are = told.1; text = is ∙ told.0; read = ap forms.witness_of is ∙ some.1 }
 
 -- the final scriptSig can be spelled
-script_sig_short : (fields : Map) → AllByRecursion IsGoodPair fields → length (unwrap_or (field FINAL_SCRIPTSIG fields) []) < 2 ^ 64
-script_sig_short fields all = go (field FINAL_SCRIPTSIG fields) refl
+script_sig_short : (fields : Map) → AllByRecursion IsGoodPair fields → length (unwrap_or (field IN_FINAL_SCRIPTSIG fields) []) < 2 ^ 64
+script_sig_short fields all = go (field IN_FINAL_SCRIPTSIG fields) refl
   where
-    go : (o : Option Bytes) → field FINAL_SCRIPTSIG fields ≡ o → length (unwrap_or o []) < 2 ^ 64
+    go : (o : Option Bytes) → field IN_FINAL_SCRIPTSIG fields ≡ o → length (unwrap_or o []) < 2 ^ 64
     go None e = omega arith
     go (Some value) e =
-        let p = field_pair IsGoodPair FINAL_SCRIPTSIG fields value all e in
+        let p = field_pair IsGoodPair IN_FINAL_SCRIPTSIG fields value all e in
         let short = p.1.short in
         let same : length p.0.value ≡ length value = ap length p.3 in
         omega (arith, short, same)
@@ -138,7 +139,7 @@ pub record AreFinal (ins final : List TransactionInput) (maps : List Map) : Type
   pub spelled : AllByRecursion IsInput final
   pub outpoints : map (λ input. input.outpoint) final ≡ map (λ input. input.outpoint) ins
   pub sequences : map (λ input. input.sequence) final ≡ map (λ input. input.sequence) ins
-  pub script_sigs : map (λ input. input.script_sig) final ≡ map (λ fields. unwrap_or (field FINAL_SCRIPTSIG fields) []) maps
+  pub script_sigs : map (λ input. input.script_sig) final ≡ map (λ fields. unwrap_or (field IN_FINAL_SCRIPTSIG fields) []) maps
 
 are_final : (ins : List TransactionInput) (maps : List Map) → AllByRecursion IsInput ins → AreGood maps → length maps ≡ length ins → AreFinal ins (final_inputs ins maps) maps
 are_final [] [] spelled good same = record { long = refl; spelled = tt; outpoints = refl; sequences = refl; script_sigs = refl }
@@ -152,7 +153,7 @@ are_final (input ∷ ins) (fields ∷ maps) spelled good same =
       spelled = (record { id = own.id; index = own.index; script_sig = script_sig_short fields good.0; sequence = own.sequence }, rest.spelled);
       outpoints = ap (λ l. input.outpoint ∷ l) rest.outpoints;
       sequences = ap (λ l. input.sequence ∷ l) rest.sequences;
-      script_sigs = ap (λ l. unwrap_or (field FINAL_SCRIPTSIG fields) [] ∷ l) rest.script_sigs;
+      script_sigs = ap (λ l. unwrap_or (field IN_FINAL_SCRIPTSIG fields) [] ∷ l) rest.script_sigs;
     }
 
 -- ---- the text without witnesses
@@ -295,14 +296,14 @@ no_byte (Some value) e = (bytes_eq-Decides value []).0 (not-false _ e)
 abbrev read_items : Map → Option (List Bytes)
 read_items fields = forms.witness_of (final_witness fields)
 
-none_of_maps : (ins : List TransactionInput) (maps : List Map) → length maps ≡ length ins → list_any (λ fields. has_item (field FINAL_SCRIPTWITNESS fields)) maps ≡ false
+none_of_maps : (ins : List TransactionInput) (maps : List Map) → length maps ≡ length ins → list_any (λ fields. has_item (field IN_FINAL_SCRIPTWITNESS fields)) maps ≡ false
     → map read_items maps ≡ map Some (map (λ input. []) ins)
 none_of_maps [] [] same e = refl
 none_of_maps [] (fields ∷ maps) same e = absurd (omega (arith, same))
 none_of_maps (input ∷ ins) [] same e = absurd (omega (arith, same))
 none_of_maps (input ∷ ins) (fields ∷ maps) same e =
-    let p = or_parts (has_item (field FINAL_SCRIPTWITNESS fields)) (list_any (λ fields. has_item (field FINAL_SCRIPTWITNESS fields)) maps) e in
-    let first = no_item (field FINAL_SCRIPTWITNESS fields) p.0 in
+    let p = or_parts (has_item (field IN_FINAL_SCRIPTWITNESS fields)) (list_any (λ fields. has_item (field IN_FINAL_SCRIPTWITNESS fields)) maps) e in
+    let first = no_item (field IN_FINAL_SCRIPTWITNESS fields) p.0 in
     let rest = none_of_maps ins maps (omega (arith, same)) p.1 in
     ap (λ o. o ∷ map read_items maps) (ap forms.witness_of first ∙ no_items) ∙ ap (λ l. Some [] ∷ l) rest
 
@@ -361,7 +362,7 @@ network_is_read law source psbt fits e some =
     let same = f.long in
     let one : 1 ≤ length (final_transaction psbt).inputs = omega (arith, some, each, same) in
     let s = spelled psbt whole in
-    elim (cases_Bool (list_any (λ fields. has_item (field FINAL_SCRIPTWITNESS fields)) psbt.inputs)) [
+    elim (cases_Bool (list_any (λ fields. has_item (field IN_FINAL_SCRIPTWITNESS fields)) psbt.inputs)) [
       | inl is ↦
           let h = have_items psbt.inputs (good_maps psbt whole) in
           let own = h.long in
@@ -393,14 +394,14 @@ unsigned_in t (pair ∷ global) all e = elim (cases_Bool (type_of pair.key == 0x
 ]
 
 pub same_inputs : (ins : List TransactionInput) (maps : List Map) → length maps ≡ length ins → list_all forms.has_no_script_sig ins ≡ true
-    → AllByRecursion (λ fields. has_byte (field FINAL_SCRIPTSIG fields) ≡ false) maps → final_inputs ins maps ≡ ins
+    → AllByRecursion (λ fields. has_byte (field IN_FINAL_SCRIPTSIG fields) ≡ false) maps → final_inputs ins maps ≡ ins
 same_inputs [] [] same bare none = refl
 same_inputs [] (fields ∷ maps) same bare none = absurd (omega (arith, same))
 same_inputs (input ∷ ins) [] same bare none = absurd (omega (arith, same))
 same_inputs (input ∷ ins) (fields ∷ maps) same bare none =
     let parts = and_parts (forms.has_no_script_sig input) (list_all forms.has_no_script_sig ins) bare in
     let own : input.script_sig ≡ [] = nil_from_length input.script_sig (omega (arith, leb-true (length input.script_sig) 0 parts.0)) in
-    let new = no_byte (field FINAL_SCRIPTSIG fields) none.0 in
+    let new = no_byte (field IN_FINAL_SCRIPTSIG fields) none.0 in
     ap (λ (sig : Bytes). record input { script_sig = sig } ∷ final_inputs ins maps) (new ∙ sym own)
     ∙ ap (λ l. input ∷ l) (same_inputs ins maps (omega (arith, same)) parts.1 none.1)
 
@@ -425,5 +426,5 @@ id_stays law source psbt fits e none =
     let sound = whole.sound in
     let bare = bare_inputs psbt sound in
     let same = same_inputs psbt.transaction.inputs psbt.inputs (as_many_inputs psbt sound) bare
-    (recursion_from_All (λ fields. has_byte (field FINAL_SCRIPTSIG fields) ≡ false) psbt.inputs none) in
+    (recursion_from_All (λ fields. has_byte (field IN_FINAL_SCRIPTSIG fields) ≡ false) psbt.inputs none) in
     ap (λ ins. id_of (record psbt.transaction { inputs = ins })) same

@@ -28,7 +28,8 @@ use Rattle.def_spend.specs.declared.State.{State}
 use Rattle.def_spend.specs.declared.State.TheVariants as state
 use Rattle.def_spend.specs.declared.Verification.{Verification}
 use Rattle.def_spend.specs.declared.Verification.TheVariants.{Verified, Unverified}
-use Rattle.def_spend.specs.Fields.{NON_WITNESS_UTXO, WITNESS_UTXO, PARTIAL_SIG, SIGHASH_TYPE, REDEEM_SCRIPT, WITNESS_SCRIPT, BIP32_DERIVATION, FINAL_SCRIPTSIG, FINAL_SCRIPTWITNESS, RIPEMD160, HASH256, has_type, is_between, field, is_signed, signatures_in, has_key, keys_in, is_preimage_pair, preimages_in, last_byte, asked, asked_type}
+use Rattle.def_psbt.specs.Types.{IN_NON_WITNESS_UTXO, IN_WITNESS_UTXO, IN_PARTIAL_SIG, IN_SIGHASH_TYPE, IN_REDEEM_SCRIPT, IN_WITNESS_SCRIPT, IN_BIP32_DERIVATION, IN_FINAL_SCRIPTSIG, IN_FINAL_SCRIPTWITNESS, IN_RIPEMD160, IN_HASH256}
+use Rattle.def_spend.specs.Fields.{has_type, is_between, field, is_signed, signatures_in, has_key, keys_in, is_preimage_pair, preimages_in, last_byte, asked, asked_type}
 use Rattle.def_spend.specs.Amount.{known_amount}
 use Rattle.def_spend.specs.Utxo.{Utxo, amount_of}
 use Rattle.def_spend.specs.Utxo as utxo
@@ -93,12 +94,12 @@ of_type : (type : ℕ) → not (is_between 0x0e 0x12 type) ≡ true → (pair : 
 of_type type other pair is = ap (λ (n : ℕ). not (is_between 0x0e 0x12 n)) (eqb-true (type_of pair.key) type is) ∙ other
 
 signed_is_other : (pair : Pair) → is_signed pair ≡ true → is_other pair ≡ true
-signed_is_other pair is = of_type PARTIAL_SIG refl pair (and_parts (has_type PARTIAL_SIG pair) (is_key (data_of pair.key)) is).0
+signed_is_other pair is = of_type IN_PARTIAL_SIG refl pair (and_parts (has_type IN_PARTIAL_SIG pair) (is_key (data_of pair.key)) is).0
 
 key_is_other : (pair : Pair) → has_key pair ≡ true → is_other pair ≡ true
-key_is_other pair is = elim (cases_Bool (has_type PARTIAL_SIG pair)) [
-  | inl signed ↦ of_type PARTIAL_SIG refl pair signed
-  | inr unsigned ↦ of_type BIP32_DERIVATION refl pair (and_parts (has_type BIP32_DERIVATION pair) (is_key (data_of pair.key)) (rw unsigned at is)).0
+key_is_other pair is = elim (cases_Bool (has_type IN_PARTIAL_SIG pair)) [
+  | inl signed ↦ of_type IN_PARTIAL_SIG refl pair signed
+  | inr unsigned ↦ of_type IN_BIP32_DERIVATION refl pair (and_parts (has_type IN_BIP32_DERIVATION pair) (is_key (data_of pair.key)) (rw unsigned at is)).0
 ]
 
 -- the types of preimages end before those of version 2
@@ -107,8 +108,8 @@ ends_before type low = ap (λ b. not (b && nat_le type 0x12)) (lt-leb 0x0e type 
 
 preimage_is_other : (pair : Pair) → is_preimage_pair pair ≡ true → is_other pair ≡ true
 preimage_is_other pair is =
-    let between = (and_parts (is_between RIPEMD160 HASH256 (type_of pair.key)) (length pair.value == 32) is).0 in
-    ends_before (type_of pair.key) (and_parts (nat_le RIPEMD160 (type_of pair.key)) (nat_le (type_of pair.key) HASH256) between).1
+    let between = (and_parts (is_between IN_RIPEMD160 IN_HASH256 (type_of pair.key)) (length pair.value == 32) is).0 in
+    ends_before (type_of pair.key) (and_parts (nat_le IN_RIPEMD160 (type_of pair.key)) (nat_le (type_of pair.key) IN_HASH256) between).1
 
 -- ---- the fields of two maps with the same other pairs
 
@@ -131,16 +132,16 @@ module _ (fields later : Map) (same : filter is_other later ≡ filter is_other 
   preimages_same = ap (map (λ (pair : Pair). pair.value)) (kept_same is_preimage_pair preimage_is_other)
 
   asked_same : asked_type later ≡ asked_type fields
-  asked_same = ap asked (field_same SIGHASH_TYPE refl)
+  asked_same = ap asked (field_same IN_SIGHASH_TYPE refl)
 
   spend_same : SpendAlike fields later
   spend_same = record {
-    script_sig = field_same FINAL_SCRIPTSIG refl;
-    witness = field_same FINAL_SCRIPTWITNESS refl;
-    previous = field_same NON_WITNESS_UTXO refl;
-    claim = field_same WITNESS_UTXO refl;
-    redeem = field_same REDEEM_SCRIPT refl;
-    script = field_same WITNESS_SCRIPT refl;
+    script_sig = field_same IN_FINAL_SCRIPTSIG refl;
+    witness = field_same IN_FINAL_SCRIPTWITNESS refl;
+    previous = field_same IN_NON_WITNESS_UTXO refl;
+    claim = field_same IN_WITNESS_UTXO refl;
+    redeem = field_same IN_REDEEM_SCRIPT refl;
+    script = field_same IN_WITNESS_SCRIPT refl;
   }
 
   too_many_same : are_too_many later ≡ are_too_many fields
@@ -306,9 +307,9 @@ module _ (input : Input) (later : Map) (same : filter is_other later ≡ filter 
 
   output_same : (output : TransactionOutput) → output_verdict new output ≡ output_verdict input.spend output
   output_same output =
-      ap (λ (o : Option Bytes). ran_verdict new (execution_of output.script (unwrap_or o []) (final_items new))) (field_same own later same FINAL_SCRIPTSIG refl)
+      ap (λ (o : Option Bytes). ran_verdict new (execution_of output.script (unwrap_or o []) (final_items new))) (field_same own later same IN_FINAL_SCRIPTSIG refl)
       ∙ ap (λ (o : Option Bytes). ran_verdict new (execution_of output.script (final_script_sig input.spend) (unwrap_or (witness_of (unwrap_or o (0x00 ∷ []))) [])))
-      (field_same own later same FINAL_SCRIPTWITNESS refl)
+      (field_same own later same IN_FINAL_SCRIPTWITNESS refl)
       ∙ ran_same (execution_of output.script (final_script_sig input.spend) (final_items input.spend))
 
   final_same : final_verdict new ≡ final_verdict input.spend
@@ -451,7 +452,7 @@ inputs_stay (i ∷ ins) (f ∷ fields) [] same = absurd cc
 inputs_stay (i ∷ ins) (f ∷ fields) (m ∷ maps) same =
     let kept : filter is_other m ≡ filter is_other f = cc in
     let others : map (filter is_other) fields ≡ map (filter is_other) maps = cc in
-    ap (λ (o : Option Bytes). record i { script_sig = unwrap_or o [] } ∷ final_inputs ins maps) (field_same f m kept FINAL_SCRIPTSIG refl)
+    ap (λ (o : Option Bytes). record i { script_sig = unwrap_or o [] } ∷ final_inputs ins maps) (field_same f m kept IN_FINAL_SCRIPTSIG refl)
     ∙ ap (λ (is : List TransactionInput). final_input i f ∷ is) (inputs_stay ins fields maps others)
 
 witnesses_stay : (fields maps : List Map) → map (filter is_other) fields ≡ map (filter is_other) maps → map final_witness maps ≡ map final_witness fields
@@ -461,12 +462,12 @@ witnesses_stay (f ∷ fields) [] same = absurd cc
 witnesses_stay (f ∷ fields) (m ∷ maps) same =
     let kept : filter is_other m ≡ filter is_other f = cc in
     let others : map (filter is_other) fields ≡ map (filter is_other) maps = cc in
-    ap (λ (o : Option Bytes). unwrap_or o (0x00 ∷ []) ∷ map final_witness maps) (field_same f m kept FINAL_SCRIPTWITNESS refl)
+    ap (λ (o : Option Bytes). unwrap_or o (0x00 ∷ []) ∷ map final_witness maps) (field_same f m kept IN_FINAL_SCRIPTWITNESS refl)
     ∙ ap (λ (ws : List Bytes). final_witness f ∷ ws) (witnesses_stay fields maps others)
 
 -- whether a final witness has an item
 abbrev any_item : (maps : List Map) → Bool
-any_item maps = list_any (λ fields. has_item (field FINAL_SCRIPTWITNESS fields)) maps
+any_item maps = list_any (λ fields. has_item (field IN_FINAL_SCRIPTWITNESS fields)) maps
 
 any_stays : (fields maps : List Map) → map (filter is_other) fields ≡ map (filter is_other) maps → any_item maps ≡ any_item fields
 any_stays [] [] same = refl
@@ -475,8 +476,8 @@ any_stays (f ∷ fields) [] same = absurd cc
 any_stays (f ∷ fields) (m ∷ maps) same =
     let kept : filter is_other m ≡ filter is_other f = cc in
     let others : map (filter is_other) fields ≡ map (filter is_other) maps = cc in
-    ap (λ o. has_item o || any_item maps) (field_same f m kept FINAL_SCRIPTWITNESS refl)
-    ∙ ap (λ b. has_item (field FINAL_SCRIPTWITNESS f) || b) (any_stays fields maps others)
+    ap (λ o. has_item o || any_item maps) (field_same f m kept IN_FINAL_SCRIPTWITNESS refl)
+    ∙ ap (λ b. has_item (field IN_FINAL_SCRIPTWITNESS f) || b) (any_stays fields maps others)
 
 abbrev text_by : (some : Bool) → Transaction → List TransactionInput → (witnesses : List Bytes) → Bytes
 text_by some transaction ins witnesses =
@@ -518,10 +519,10 @@ known_stays : (input : Input) (later : Map) → filter is_other later ≡ filter
     → known_script_sig (with_map input later).spend ≡ known_script_sig input.spend
 known_stays input later same =
     let alike = spend_same input.spend.fields later same in
-    ap (λ b. known_by b (field FINAL_SCRIPTSIG later) (kind_of (with_map input later).spend) (field REDEEM_SCRIPT later)) (final_alike input.spend.fields later alike)
-    ∙ ap (λ o. known_by (has_final input.spend.fields) o (kind_of (with_map input later).spend) (field REDEEM_SCRIPT later)) alike.script_sig
-    ∙ ap (λ k. known_by (has_final input.spend.fields) (field FINAL_SCRIPTSIG input.spend.fields) k (field REDEEM_SCRIPT later)) (kind_same input later same)
-    ∙ ap (known_by (has_final input.spend.fields) (field FINAL_SCRIPTSIG input.spend.fields) (kind_of input.spend)) alike.redeem
+    ap (λ b. known_by b (field IN_FINAL_SCRIPTSIG later) (kind_of (with_map input later).spend) (field IN_REDEEM_SCRIPT later)) (final_alike input.spend.fields later alike)
+    ∙ ap (λ o. known_by (has_final input.spend.fields) o (kind_of (with_map input later).spend) (field IN_REDEEM_SCRIPT later)) alike.script_sig
+    ∙ ap (λ k. known_by (has_final input.spend.fields) (field IN_FINAL_SCRIPTSIG input.spend.fields) k (field IN_REDEEM_SCRIPT later)) (kind_same input later same)
+    ∙ ap (known_by (has_final input.spend.fields) (field IN_FINAL_SCRIPTSIG input.spend.fields) (kind_of input.spend)) alike.redeem
 
 alike_stay : (inputs others : List Input) → AreTurned inputs others
     → AreAlike (map (λ (input : Input). input.spend) others) (map (λ (input : Input). input.spend) inputs)

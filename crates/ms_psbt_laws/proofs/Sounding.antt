@@ -28,7 +28,8 @@ use Rattle.def_psbt.specs.Forms as forms
 use Rattle.def_psbt.specs.Listed.{Form, stands, shape_fault, pair_fault, input_form}
 use Rattle.def_psbt.specs.Laws.{IsSoundPair, IsSoundMap}
 use Rattle.def_spend.specs.declared.State.TheVariants as state
-use Rattle.def_spend.specs.Fields.{WITNESS_SCRIPT, FINAL_SCRIPTSIG, FINAL_SCRIPTWITNESS, has_type, field}
+use Rattle.def_psbt.specs.Types.{IN_WITNESS_SCRIPT, IN_FINAL_SCRIPTSIG, IN_FINAL_SCRIPTWITNESS}
+use Rattle.def_spend.specs.Fields.{has_type, field}
 use Rattle.def_spend.specs.Good.{counted_signatures, assets_of}
 use Rattle.def_spend.specs.Kinds.{pushed, IsGuardedBy}
 use Rattle.def_spend.specs.Reading.{Input}
@@ -104,11 +105,11 @@ none_cleared key is (pair ∷ fields) =
       | inr cleared ↦ rw cleared rest
     ]
 
-witness_cleared : is_cleared (type_of (FINAL_SCRIPTWITNESS ∷ [])) ≡ true
+witness_cleared : is_cleared (type_of (IN_FINAL_SCRIPTWITNESS ∷ [])) ≡ true
 unfolding read_size
 witness_cleared = refl
 
-script_sig_cleared : is_cleared (type_of (FINAL_SCRIPTSIG ∷ [])) ≡ true
+script_sig_cleared : is_cleared (type_of (IN_FINAL_SCRIPTSIG ∷ [])) ≡ true
 unfolding read_size
 script_sig_cleared = refl
 
@@ -164,12 +165,12 @@ witness_short stack script fits =
     let both = length-append (size_bytes (length (all_items stack script))) (flat_map sized (all_items stack script)) in
     omega (arith, few, length-append stack (script ∷ []), items, size, both)
 
-final_fault : (version : PsbtVersion) (before : Map) (witness : Bytes) → stands (FINAL_SCRIPTWITNESS ∷ []) before ≡ false → is_some (forms.witness_of witness) ≡ true
+final_fault : (version : PsbtVersion) (before : Map) (witness : Bytes) → stands (IN_FINAL_SCRIPTWITNESS ∷ []) before ≡ false → is_some (forms.witness_of witness) ≡ true
     → pair_fault (input_form version) before (witness_pair witness) ≡ None
 unfolding pair_fault shape_fault read_size input_form
 final_fault version before witness none form = rw (none, form) refl
 
-script_sig_fault : (version : PsbtVersion) (before : Map) (script_sig : Bytes) → stands (FINAL_SCRIPTSIG ∷ []) before ≡ false
+script_sig_fault : (version : PsbtVersion) (before : Map) (script_sig : Bytes) → stands (IN_FINAL_SCRIPTSIG ∷ []) before ≡ false
     → pair_fault (input_form version) before (script_sig_pair script_sig) ≡ None
 unfolding pair_fault shape_fault read_size input_form
 script_sig_fault version before script_sig none = rw none refl
@@ -179,14 +180,14 @@ pairs_sound : (version : PsbtVersion) (fields : Map) (stack : List Bytes) (scrip
     → IsSoundMap (input_form version) (filter is_kept fields) (final_pairs script_sig (witness_text stack script))
 pairs_sound version fields stack script fits [] short =
     let form : is_some (forms.witness_of (witness_text stack script)) ≡ true = ap is_some (items_back (all_items stack script) (are_items stack script fits)) in
-    let none = none_cleared (FINAL_SCRIPTWITNESS ∷ []) witness_cleared fields in
+    let none = none_cleared (IN_FINAL_SCRIPTWITNESS ∷ []) witness_cleared fields in
     (record { fault = final_fault version (filter is_kept fields) (witness_text stack script) none form; key = omega arith; value = witness_short stack script fits }, tt)
 pairs_sound version fields stack script fits (byte ∷ rest) short =
     let form : is_some (forms.witness_of (witness_text stack script)) ≡ true = ap is_some (items_back (all_items stack script) (are_items stack script fits)) in
-    let none = none_cleared (FINAL_SCRIPTWITNESS ∷ []) witness_cleared fields in
-    let behind = stands_both (FINAL_SCRIPTWITNESS ∷ []) (filter is_kept fields) (script_sig_pair (byte ∷ rest)) none refl in (
+    let none = none_cleared (IN_FINAL_SCRIPTWITNESS ∷ []) witness_cleared fields in
+    let behind = stands_both (IN_FINAL_SCRIPTWITNESS ∷ []) (filter is_kept fields) (script_sig_pair (byte ∷ rest)) none refl in (
       record {
-        fault = script_sig_fault version (filter is_kept fields) (byte ∷ rest) (none_cleared (FINAL_SCRIPTSIG ∷ []) script_sig_cleared fields);
+        fault = script_sig_fault version (filter is_kept fields) (byte ∷ rest) (none_cleared (IN_FINAL_SCRIPTSIG ∷ []) script_sig_cleared fields);
         key = omega arith;
         value = short;
       },
@@ -266,13 +267,13 @@ guarded_fits program output script_sig fits (inr h) = subst Fits (sym h.1) fits
 
 witness_fit : (witness : Bytes) → IsBytes witness → All IsPairOfBytes (witness_pair witness ∷ [])
 witness_fit witness fits =
-    let key : IsBytes (FINAL_SCRIPTWITNESS ∷ []) = bytes.more FINAL_SCRIPTWITNESS [] (omega arith) bytes.none in
+    let key : IsBytes (IN_FINAL_SCRIPTWITNESS ∷ []) = bytes.more IN_FINAL_SCRIPTWITNESS [] (omega arith) bytes.none in
     All-cons IsPairOfBytes (witness_pair witness) [] (key, fits) (All-nil IsPairOfBytes)
 
 pairs_fit : (script_sig witness : Bytes) → IsBytes script_sig → IsBytes witness → All IsPairOfBytes (final_pairs script_sig witness)
 pairs_fit [] witness sig fits = witness_fit witness fits
 pairs_fit (byte ∷ rest) witness sig fits =
-    let key : IsBytes (FINAL_SCRIPTSIG ∷ []) = bytes.more FINAL_SCRIPTSIG [] (omega arith) bytes.none in
+    let key : IsBytes (IN_FINAL_SCRIPTSIG ∷ []) = bytes.more IN_FINAL_SCRIPTSIG [] (omega arith) bytes.none in
     All-cons IsPairOfBytes (script_sig_pair (byte ∷ rest)) (witness_pair witness ∷ []) (key, sig) (witness_fit witness fits)
 
 -- ---- each map as it is written
@@ -304,7 +305,7 @@ field_pair P type (pair ∷ fields) value all e = elim (cases_Bool (has_type typ
 -- of P2WSH the last one is the script
 script_final : (input : Input) (tree : Tree) (script : Bytes) → IsChosen input tree script → IsScriptWitness input tree → IsFinalWitness input
 script_final input tree script c w =
-    let found = field_pair IsPairOfBytes WITNESS_SCRIPT input.spend.fields (script_of tree)
+    let found = field_pair IsPairOfBytes IN_WITNESS_SCRIPT input.spend.fields (script_of tree)
     (recursion_from_All IsPairOfBytes input.spend.fields c.given.place.fits) w.script in
     record {
       stack = stack_of input;

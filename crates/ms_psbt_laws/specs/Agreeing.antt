@@ -2,7 +2,7 @@
 -- of version 2.
 use Rattle.std.specs.Prelude.{◌≡◌, ◌≢◌, not, Bool, List, map, filter, Some, Ok}
 use Rattle.def_script.specs.Bytes.{Bytes}
-use Rattle.def_psbt.specs.Fields.{IN_PREVIOUS_TXID, IN_REQUIRED_HEIGHT_LOCKTIME}
+use Rattle.def_psbt.specs.Types.{IN_PREVIOUS_TXID, IN_REQUIRED_HEIGHT_LOCKTIME}
 use Rattle.def_psbt.specs.Map.{Pair, Psbt, type_of}
 use Rattle.def_psbt.specs.Source.{psbt_of}
 use Rattle.def_spend.specs.declared.Verification.{Verification}

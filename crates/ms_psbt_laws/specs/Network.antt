@@ -9,7 +9,8 @@ use Rattle.def_psbt.specs.Map.{Psbt}
 use Rattle.def_psbt.specs.Part.{◌>>=◌, first_bytes, first_number, first_many, whole}
 use Rattle.def_psbt.specs.TransactionReading.{first_sides, first_witness, transaction_of, network_transaction_of}
 use Rattle.def_psbt.specs.Forms.{witness_of}
-use Rattle.def_spend.specs.Fields.{FINAL_SCRIPTSIG, field}
+use Rattle.def_psbt.specs.Types.{IN_FINAL_SCRIPTSIG}
+use Rattle.def_spend.specs.Fields.{field}
 use Rattle.def_spend.specs.declared.Verification.{Verification}
 use Rattle.def_spend.specs.Input.{spends_of}
 use Rattle.def_spend.specs.Reading.{has_byte}
@@ -54,7 +55,7 @@ pub record IsReadAs (psbt : Psbt) (bytes : Bytes) : Type 0 where
   pub sequences : map (λ input. input.sequence) transaction.inputs ≡ map (λ input. input.sequence) psbt.transaction.inputs
   pub outputs : transaction.outputs ≡ psbt.transaction.outputs
   pub lock_time : transaction.lock_time ≡ psbt.transaction.lock_time
-  pub script_sigs : map (λ input. input.script_sig) transaction.inputs ≡ map (λ fields. unwrap_or (field FINAL_SCRIPTSIG fields) []) psbt.inputs
+  pub script_sigs : map (λ input. input.script_sig) transaction.inputs ≡ map (λ fields. unwrap_or (field IN_FINAL_SCRIPTSIG fields) []) psbt.inputs
   pub witnesses : List (List Bytes)
   pub witnessed : network_witnesses_of bytes ≡ Some witnesses
   pub items : map (λ fields. witness_of (final_witness fields)) psbt.inputs ≡ map Some witnesses
@@ -66,7 +67,7 @@ NetworkIsRead = OfEachGiven (λ psbt. 1 ≤ length psbt.inputs → IsReadAs psbt
 -- and where no final scriptSig has a byte, its id is that of the PSBT's transaction
 abbrev pub IdStays : Type 0
 IdStays =
-    OfEachGiven (λ psbt. All (λ fields. has_byte (field FINAL_SCRIPTSIG fields) ≡ false) psbt.inputs →
+    OfEachGiven (λ psbt. All (λ fields. has_byte (field IN_FINAL_SCRIPTSIG fields) ≡ false) psbt.inputs →
     id_of (final_transaction psbt) ≡ id_of psbt.transaction)
 
 -- where each input is Final, the final transaction has the final id that is told, and that of the PSBT's transaction where none is

@@ -5,7 +5,8 @@ use Rattle.def_psbt.specs.Map.{Psbt}
 use Rattle.def_psbt.specs.Reading.{read_psbt}
 use Rattle.def_psbt.specs.Source.{MAX_SOURCE_SIZE, psbt_of}
 use Rattle.def_spend.specs.declared.Verification.{Verification}
-use Rattle.def_spend.specs.Fields.{FINAL_SCRIPTSIG, FINAL_SCRIPTWITNESS, field}
+use Rattle.def_psbt.specs.Types.{IN_FINAL_SCRIPTSIG, IN_FINAL_SCRIPTWITNESS}
+use Rattle.def_spend.specs.Fields.{field}
 use Rattle.def_spend.specs.Reading.{Input, has_final, AreInputs}
 use Rattle.def_spend.specs.States.{state_of, is_ready}
 use Rattle.def_spend.specs.Finalized.{script_sig_of, witness_of, written_map, finalized}
@@ -24,8 +25,8 @@ WrittenIsRead = OfEachPsbt (λ psbt inputs. read_psbt (finalized_text psbt input
 
 -- a Ready input is written with its witness as the final one, and with its scriptSig, where that has a byte
 pub record IsMadeFinal (input : Input) : Type 0 where
-  pub witness : field FINAL_SCRIPTWITNESS (written_map input) ≡ Some (witness_of input)
-  pub script_sig : unwrap_or (field FINAL_SCRIPTSIG (written_map input)) [] ≡ script_sig_of input.spend
+  pub witness : field IN_FINAL_SCRIPTWITNESS (written_map input) ≡ Some (witness_of input)
+  pub script_sig : unwrap_or (field IN_FINAL_SCRIPTSIG (written_map input)) [] ≡ script_sig_of input.spend
   pub final : has_final (written_map input) ≡ true
 
 abbrev pub ReadyIsMadeFinal : Type 0

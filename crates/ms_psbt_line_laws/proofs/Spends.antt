@@ -21,7 +21,8 @@ use Rattle.def_psbt.specs.Map.{Pair, Map, Psbt, data_of}
 use Rattle.def_spend.specs.declared.State.{State}
 use Rattle.def_spend.specs.declared.HashType.{HashType}
 use Rattle.def_spend.specs.declared.Verification.{Verification}
-use Rattle.def_spend.specs.Fields.{FINAL_SCRIPTSIG, FINAL_SCRIPTWITNESS, NON_WITNESS_UTXO, WITNESS_UTXO, has_type, field, is_signed, signatures_in}
+use Rattle.def_psbt.specs.Types.{IN_FINAL_SCRIPTSIG, IN_FINAL_SCRIPTWITNESS, IN_NON_WITNESS_UTXO, IN_WITNESS_UTXO}
+use Rattle.def_spend.specs.Fields.{has_type, field, is_signed, signatures_in}
 use Rattle.def_spend.specs.Input.{Spend, spends_from, spends_of}
 use Rattle.def_spend.specs.Utxo.{Utxo, none, wrong, proved, claimed, proved_output, utxo_by}
 use Rattle.def_spend.specs.Kinds.{is_p2sh, p2sh_of, is_script_hash, is_key_hash, spent_utxo}
@@ -150,9 +151,9 @@ read_if_any P read (Some bytes) each h = each bytes h
 
 spent_is : (spend : Spend) → IsSpend spend → IsUtxo (spent_utxo spend)
 spent_is spend h =
-    utxo_is (option_and_then network_transaction_of (field NON_WITNESS_UTXO spend.fields)) (option_and_then output_of (field WITNESS_UTXO spend.fields)) spend.input.outpoint
-    (read_if_any IsOfBytes network_transaction_of (field NON_WITNESS_UTXO spend.fields) network_read (field_is NON_WITNESS_UTXO spend.fields h.fields))
-    (read_if_any IsOutputOfBytes output_of (field WITNESS_UTXO spend.fields) output_read (field_is WITNESS_UTXO spend.fields h.fields))
+    utxo_is (option_and_then network_transaction_of (field IN_NON_WITNESS_UTXO spend.fields)) (option_and_then output_of (field IN_WITNESS_UTXO spend.fields)) spend.input.outpoint
+    (read_if_any IsOfBytes network_transaction_of (field IN_NON_WITNESS_UTXO spend.fields) network_read (field_is IN_NON_WITNESS_UTXO spend.fields h.fields))
+    (read_if_any IsOutputOfBytes output_of (field IN_WITNESS_UTXO spend.fields) output_read (field_is IN_WITNESS_UTXO spend.fields h.fields))
 
 -- ---- what the final fields have consensus run
 
@@ -223,7 +224,7 @@ or_zero None h = one_zero
 or_zero (Some bytes) h = h
 
 final_witness_is : (pairs : Map) → Every IsPair pairs → IsBytes (final_witness pairs)
-final_witness_is pairs h = or_zero (field FINAL_SCRIPTWITNESS pairs) (field_is FINAL_SCRIPTWITNESS pairs h)
+final_witness_is pairs h = or_zero (field IN_FINAL_SCRIPTWITNESS pairs) (field_is IN_FINAL_SCRIPTWITNESS pairs h)
 
 items_or_none : (o : Option (List Bytes)) → IfAny (Every IsBytes) o → Every IsBytes (unwrap_or o [])
 items_or_none None h = tt
@@ -232,8 +233,8 @@ items_or_none (Some items) h = h
 items_are : (spend : Spend) → IsSpend spend → Every IsBytes (final_items spend)
 items_are spend h = items_or_none (witness_of (final_witness spend.fields)) (witness_read (final_witness spend.fields) (final_witness_is spend.fields h.fields))
 
-script_sig_is : (pairs : Map) → Every IsPair pairs → IsBytes (unwrap_or (field FINAL_SCRIPTSIG pairs) [])
-script_sig_is pairs h = or_nothing (field FINAL_SCRIPTSIG pairs) (field_is FINAL_SCRIPTSIG pairs h)
+script_sig_is : (pairs : Map) → Every IsPair pairs → IsBytes (unwrap_or (field IN_FINAL_SCRIPTSIG pairs) [])
+script_sig_is pairs h = or_nothing (field IN_FINAL_SCRIPTSIG pairs) (field_is IN_FINAL_SCRIPTSIG pairs h)
 
 -- ---- verdicts
 
@@ -311,7 +312,7 @@ witnesses_are [] h = no_bytes
 witnesses_are (m ∷ maps) h = joined_bytes (final_witness m) (flat_map (λ (witness : Bytes). witness) (map final_witness maps)) (final_witness_is m h.0) (witnesses_are maps h.1)
 
 pub network_text_is : (psbt : Psbt) → IsWhole psbt → IsBytes (network_text psbt)
-network_text_is psbt whole = by (list_any (λ (fields : Map). has_item (field FINAL_SCRIPTWITNESS fields)) psbt.inputs)
+network_text_is psbt whole = by (list_any (λ (fields : Map). has_item (field IN_FINAL_SCRIPTWITNESS fields)) psbt.inputs)
   where
     final : IsOfBytes (final_transaction psbt)
     final = let t = transaction_is psbt whole in record { inputs = final_inputs_are psbt.transaction.inputs psbt.inputs t.inputs (psbt_maps psbt whole); outputs = t.outputs }

@@ -11,7 +11,8 @@ use Rattle.def_psbt.specs.Part.{Part, ◌>>=◌, first_bytes, first_number, size
 use Rattle.def_psbt.specs.TransactionReading.{first_outpoint, first_input, first_output, first_sides, transaction_of, first_witness, witnessed_transaction_of, network_transaction_of}
 use Rattle.def_psbt.specs.Forms.{output_of, witness_of}
 use Rattle.def_psbt.specs.Map.{Pair, Map, Psbt, pair_of_type}
-use Rattle.def_psbt.specs.Fields.{value_in, input_of, GLOBAL_UNSIGNED_TX, IN_PREVIOUS_TXID, OUT_SCRIPT}
+use Rattle.def_psbt.specs.Types.{GLOBAL_UNSIGNED_TX, IN_PREVIOUS_TXID, OUT_SCRIPT}
+use Rattle.def_psbt.specs.Fields.{value_in, input_of}
 use Rattle.def_psbt.specs.Fields as fields
 use Rattle.def_psbt.specs.Reading.{Outline, given, counted, transaction_in_pair, transaction_in, outline_in, transaction_by}
 use Rattle.def_lines.proofs.Lists.{Every, from_all}

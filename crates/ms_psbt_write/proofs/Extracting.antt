@@ -8,7 +8,8 @@ use Rattle.def_script.specs.Bytes.{Bytes}
 use Rattle.def_script.specs.Sizes.{size_bytes}
 use Rattle.def_psbt.specs.Map.{Map}
 use Rattle.def_psbt.specs.Transaction.{TransactionInput, TransactionOutput, input_text, output_text, inputs_text, outputs_text}
-use Rattle.def_spend.specs.Fields.{FINAL_SCRIPTSIG, field}
+use Rattle.def_psbt.specs.Types.{IN_FINAL_SCRIPTSIG}
+use Rattle.def_spend.specs.Fields.{field}
 use Rattle.def_spend.specs.Finalized.{final_inputs, final_witness}
 use Rattle.def_spend.specs.Reading.{has_item}
 
@@ -40,12 +41,12 @@ witness_next maps k fields witness before after total e w a all =
     ∙ ap (λ (xs : List Map). before ++ flat_map (λ (x : Bytes). x) (map final_witness xs)) (sym (here maps k fields e)) ∙ all
 
 pub input_next : (inputs : List TransactionInput) (maps : List Map) (k : ℕ) (input : TransactionInput) (fields : Map) (script_sig before after total : Bytes)
-    → slice_get inputs k ≡ Some input → slice_get maps k ≡ Some fields → script_sig ≡ unwrap_or (field FINAL_SCRIPTSIG fields) [] → after ≡ before
+    → slice_get inputs k ≡ Some input → slice_get maps k ≡ Some fields → script_sig ≡ unwrap_or (field IN_FINAL_SCRIPTSIG fields) [] → after ≡ before
     ++ input_text (record input { script_sig = script_sig })
     → before ++ flat_map input_text (final_inputs (drop k inputs) (drop k maps)) ≡ total → after ++ flat_map input_text (final_inputs (drop (k + 1) inputs) (drop (k + 1) maps)) ≡ total
 input_next inputs maps k input fields script_sig before after total i m s a all =
     ap (λ (x : Bytes). x ++ flat_map input_text (final_inputs (drop (k + 1) inputs) (drop (k + 1) maps))) (a ∙ ap (λ (x : Bytes). before ++ input_text (record input { script_sig = x })) s)
-    ∙ append_assoc before (input_text (record input { script_sig = unwrap_or (field FINAL_SCRIPTSIG fields) [] })) (flat_map input_text (final_inputs (drop (k + 1) inputs) (drop (k + 1) maps)))
+    ∙ append_assoc before (input_text (record input { script_sig = unwrap_or (field IN_FINAL_SCRIPTSIG fields) [] })) (flat_map input_text (final_inputs (drop (k + 1) inputs) (drop (k + 1) maps)))
     ∙ ap (λ (xs : List TransactionInput). before ++ flat_map input_text (final_inputs xs (fields ∷ drop (k + 1) maps))) (sym (here inputs k input i))
     ∙ ap (λ (xs : List Map). before ++ flat_map input_text (final_inputs (drop k inputs) xs)) (sym (here maps k fields m)) ∙ all
 

@@ -6,6 +6,7 @@ ghost use Rattle.def_psbt.specs.Map.{pair_text, map_text};
 ghost use Rattle.def_spend.specs.Finalized.{is_cleared as the_is_cleared, is_kept, final_pairs, final_map};
 
 use crate::pieces::push_pair;
+use def_psbt::types;
 use ms_psbt::{PairRef, Pairs};
 use std::alloc::AllocError;
 
@@ -13,7 +14,8 @@ use std::alloc::AllocError;
 fn is_cleared(type_number: u64) -> bool
     ensures { result ≡ the_is_cleared type_number }
 {
-    (0x02 <= type_number && type_number <= 0x08) || (0x0a <= type_number && type_number <= 0x0d)
+    (types::IN_PARTIAL_SIG <= type_number && type_number <= types::IN_FINAL_SCRIPTWITNESS)
+        || (types::IN_RIPEMD160 <= type_number && type_number <= types::IN_HASH256)
 }
 
 /// Adds the pairs of a map that are kept, in their order.
@@ -68,7 +70,7 @@ fn push_final_pairs(out: &mut Vec<u8>, script_sig: &[u8], witness: &[u8]) -> Res
     ensures { OnOk result (out.new.items ≡ out.old.items ++ flat_map pair_text (final_pairs script_sig.now witness.now)) }
 {
     if !script_sig.is_empty() {
-        push_pair(out, &[0x07], script_sig)?;
+        push_pair(out, &[types::IN_FINAL_SCRIPTSIG as u8], script_sig)?;
     }
-    push_pair(out, &[0x08], witness)
+    push_pair(out, &[types::IN_FINAL_SCRIPTWITNESS as u8], witness)
 }

@@ -5,7 +5,8 @@ ghost use Rattle.std.specs.List.{flat_map, list_any};
 ghost use Rattle.hex.specs.Hex.{encode_lower};
 ghost use Rattle.def_answer.specs.Lines.{line};
 ghost use Rattle.def_psbt.specs.Transaction.{input_text, inputs_text, outputs_text, transaction_text};
-ghost use Rattle.def_spend.specs.Fields.{FINAL_SCRIPTWITNESS, field};
+ghost use Rattle.def_psbt.specs.Types.{IN_FINAL_SCRIPTWITNESS};
+ghost use Rattle.def_spend.specs.Fields.{field};
 ghost use Rattle.def_spend.specs.Finalized.{final_inputs, final_transaction, final_witness as the_final_witness, witnessed_text, network_text};
 ghost use Rattle.def_spend.specs.Reading.{has_item as the_has_item};
 ghost use Rattle.ms_transaction.specs.Unsigned.{IsUnsigned};
@@ -93,7 +94,7 @@ fn push_sides(
 
 // Whether an input has a final witness with an item.
 fn has_witness(psbt: &Psbt<'_>) -> bool
-    ensures { result ≡ list_any (λ fields. the_has_item (field FINAL_SCRIPTWITNESS fields)) psbt.now.inputs }
+    ensures { result ≡ list_any (λ fields. the_has_item (field IN_FINAL_SCRIPTWITNESS fields)) psbt.now.inputs }
 {
     'inputs: for number in 0..psbt.input_count() {
         if has_item(final_witness(psbt.input_map(number))) {

@@ -31,7 +31,8 @@ use Rattle.ms_witness.specs.Replaying.{replay, ran}
 use Rattle.ms_witness.proofs.Witnesses.{witness_is_replayed}
 use Rattle.def_spend.specs.declared.State.TheVariants as state
 use Rattle.def_decode.specs.Decoded.{IsDecoded}
-use Rattle.def_spend.specs.Fields.{WITNESS_SCRIPT, field, keys_in}
+use Rattle.def_psbt.specs.Types.{IN_WITNESS_SCRIPT}
+use Rattle.def_spend.specs.Fields.{field, keys_in}
 use Rattle.def_spend.specs.Hashes.{script_or_none, script_in}
 use Rattle.def_spend.specs.Good.{assets_of}
 use Rattle.def_spend.specs.Kinds.{IsGuardedBy, kind_of, ends_in_script}
@@ -77,7 +78,7 @@ same_script input tree script t = sym t.decoded.reading.same
 
 -- of P2WSH it is the one that ends in the script
 script_witness : (input : Input) (tree : Tree) (script : Bytes) → IsTried input tree script
-    → IsScriptFor (spent_output input.spend) (field WITNESS_SCRIPT input.spend.fields) (kind_of input.spend) (script_sig_of input.spend) script → IsScriptWitness input tree
+    → IsScriptFor (spent_output input.spend) (field IN_WITNESS_SCRIPT input.spend.fields) (kind_of input.spend) (script_sig_of input.spend) script → IsScriptWitness input tree
 script_witness input tree script t found =
     let same = same_script input tree script t in
     record {

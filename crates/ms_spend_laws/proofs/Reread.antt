@@ -17,7 +17,8 @@ use Rattle.def_psbt.specs.Transaction.{Outpoint}
 use Rattle.def_psbt.specs.Map.{Pair, Map, type_of, data_of}
 use Rattle.def_psbt.specs.TransactionReading.{network_transaction_of}
 use Rattle.def_psbt.specs.Forms.{output_of}
-use Rattle.def_spend.specs.Fields.{NON_WITNESS_UTXO, WITNESS_UTXO, PARTIAL_SIG, SIGHASH_TYPE, REDEEM_SCRIPT, WITNESS_SCRIPT, FINAL_SCRIPTSIG, FINAL_SCRIPTWITNESS, RIPEMD160, HASH256, has_type, is_between, field, is_signed, has_key, keys_in, is_preimage_pair, preimages_in, last_byte, asked, asked_type}
+use Rattle.def_psbt.specs.Types.{IN_NON_WITNESS_UTXO, IN_WITNESS_UTXO, IN_PARTIAL_SIG, IN_SIGHASH_TYPE, IN_REDEEM_SCRIPT, IN_WITNESS_SCRIPT, IN_FINAL_SCRIPTSIG, IN_FINAL_SCRIPTWITNESS, IN_RIPEMD160, IN_HASH256}
+use Rattle.def_spend.specs.Fields.{has_type, is_between, field, is_signed, has_key, keys_in, is_preimage_pair, preimages_in, last_byte, asked, asked_type}
 use Rattle.def_spend.specs.Amount.{known_amount}
 use Rattle.def_spend.specs.Utxo.{utxo_by, utxo_of, amount_of}
 use Rattle.def_spend.specs.HashTypes.{hash_type_of}
@@ -70,23 +71,23 @@ each {A} P Q f (x ∷ xs) h = (f x h.0, each P Q f xs h.1)
 
 -- maps with the same fields of what an input spends
 pub record SpendAlike (fields later : Map) : Type 0 where
-  pub script_sig : field FINAL_SCRIPTSIG later ≡ field FINAL_SCRIPTSIG fields
-  pub witness : field FINAL_SCRIPTWITNESS later ≡ field FINAL_SCRIPTWITNESS fields
-  pub previous : field NON_WITNESS_UTXO later ≡ field NON_WITNESS_UTXO fields
-  pub claim : field WITNESS_UTXO later ≡ field WITNESS_UTXO fields
-  pub redeem : field REDEEM_SCRIPT later ≡ field REDEEM_SCRIPT fields
-  pub script : field WITNESS_SCRIPT later ≡ field WITNESS_SCRIPT fields
+  pub script_sig : field IN_FINAL_SCRIPTSIG later ≡ field IN_FINAL_SCRIPTSIG fields
+  pub witness : field IN_FINAL_SCRIPTWITNESS later ≡ field IN_FINAL_SCRIPTWITNESS fields
+  pub previous : field IN_NON_WITNESS_UTXO later ≡ field IN_NON_WITNESS_UTXO fields
+  pub claim : field IN_WITNESS_UTXO later ≡ field IN_WITNESS_UTXO fields
+  pub redeem : field IN_REDEEM_SCRIPT later ≡ field IN_REDEEM_SCRIPT fields
+  pub script : field IN_WITNESS_SCRIPT later ≡ field IN_WITNESS_SCRIPT fields
 
 -- all pairs are signatures of compressed keys
 abbrev pub AreSigned : Map → Type 0
 AreSigned added = AllByRecursion (λ pair. is_signed pair ≡ true) added
 
-type_is : (pair : Pair) → is_signed pair ≡ true → type_of pair.key ≡ PARTIAL_SIG
-type_is pair e = eqb-true (type_of pair.key) PARTIAL_SIG (and_parts (has_type PARTIAL_SIG pair) (is_key (data_of pair.key)) e).0
+type_is : (pair : Pair) → is_signed pair ≡ true → type_of pair.key ≡ IN_PARTIAL_SIG
+type_is pair e = eqb-true (type_of pair.key) IN_PARTIAL_SIG (and_parts (has_type IN_PARTIAL_SIG pair) (is_key (data_of pair.key)) e).0
 
 module _ (later fields added : Map) (parts : ConsistsOf later fields added) (signed : AreSigned added) where
   -- another field than the signatures
-  pub field_stays : (type : ℕ) → (PARTIAL_SIG == type) ≡ false → field type later ≡ field type fields
+  pub field_stays : (type : ℕ) → (IN_PARTIAL_SIG == type) ≡ false → field type later ≡ field type fields
   field_stays type other =
       ap (option_map (λ (pair : Pair). pair.value)) (found_among (has_type type) later fields added parts
       (each (λ pair. is_signed pair ≡ true) (λ pair. has_type type pair ≡ false) (λ pair e. ap (λ n. n == type) (type_is pair e) ∙ other) added signed))
@@ -95,19 +96,19 @@ module _ (later fields added : Map) (parts : ConsistsOf later fields added) (sig
   preimages_stay =
       ap (map (λ (pair : Pair). pair.value)) (kept_among is_preimage_pair later fields added parts
       (each (λ pair. is_signed pair ≡ true) (λ pair. is_preimage_pair pair ≡ false)
-      (λ pair e. ap (λ (n : ℕ). is_between RIPEMD160 HASH256 n && (length pair.value == 32)) (type_is pair e)) added signed))
+      (λ pair e. ap (λ (n : ℕ). is_between IN_RIPEMD160 IN_HASH256 n && (length pair.value == 32)) (type_is pair e)) added signed))
 
   pub asked_stays : asked_type later ≡ asked_type fields
-  asked_stays = ap asked (field_stays SIGHASH_TYPE refl)
+  asked_stays = ap asked (field_stays IN_SIGHASH_TYPE refl)
 
   pub alike : SpendAlike fields later
   alike = record {
-    script_sig = field_stays FINAL_SCRIPTSIG refl;
-    witness = field_stays FINAL_SCRIPTWITNESS refl;
-    previous = field_stays NON_WITNESS_UTXO refl;
-    claim = field_stays WITNESS_UTXO refl;
-    redeem = field_stays REDEEM_SCRIPT refl;
-    script = field_stays WITNESS_SCRIPT refl;
+    script_sig = field_stays IN_FINAL_SCRIPTSIG refl;
+    witness = field_stays IN_FINAL_SCRIPTWITNESS refl;
+    previous = field_stays IN_NON_WITNESS_UTXO refl;
+    claim = field_stays IN_WITNESS_UTXO refl;
+    redeem = field_stays IN_REDEEM_SCRIPT refl;
+    script = field_stays IN_WITNESS_SCRIPT refl;
   }
 
 -- two maps that are so to a third one are so to one another
@@ -126,13 +127,13 @@ alike_both kept fields later one other = record {
 module _ (fields later : Map) (alike : SpendAlike fields later) where
   pub final_alike : has_final later ≡ has_final fields
   final_alike =
-      ap (λ o. has_byte o || has_item (field FINAL_SCRIPTWITNESS later)) alike.script_sig
-      ∙ ap (λ o. has_byte (field FINAL_SCRIPTSIG fields) || has_item o) alike.witness
+      ap (λ o. has_byte o || has_item (field IN_FINAL_SCRIPTWITNESS later)) alike.script_sig
+      ∙ ap (λ o. has_byte (field IN_FINAL_SCRIPTSIG fields) || has_item o) alike.witness
 
   pub utxo_alike : (outpoint : Outpoint) → utxo_of outpoint later ≡ utxo_of outpoint fields
   utxo_alike outpoint =
-      ap (λ o. utxo_by (option_and_then network_transaction_of o) (option_and_then output_of (field WITNESS_UTXO later)) outpoint) alike.previous
-      ∙ ap (λ o. utxo_by (option_and_then network_transaction_of (field NON_WITNESS_UTXO fields)) (option_and_then output_of o) outpoint) alike.claim
+      ap (λ o. utxo_by (option_and_then network_transaction_of o) (option_and_then output_of (field IN_WITNESS_UTXO later)) outpoint) alike.previous
+      ∙ ap (λ o. utxo_by (option_and_then network_transaction_of (field IN_NON_WITNESS_UTXO fields)) (option_and_then output_of o) outpoint) alike.claim
 
 -- the program, the kind and the Script, by such fields
 module _ (spend : Spend) (later : Map) (same : SpendAlike spend.fields later) where
@@ -141,7 +142,7 @@ module _ (spend : Spend) (later : Map) (same : SpendAlike spend.fields later) wh
 
   program_alike : spent_program again ≡ spent_program spend
   program_alike =
-      ap (λ u. program_of_utxo u (field REDEEM_SCRIPT later)) (utxo_alike spend.fields later same spend.input.outpoint)
+      ap (λ u. program_of_utxo u (field IN_REDEEM_SCRIPT later)) (utxo_alike spend.fields later same spend.input.outpoint)
       ∙ ap (program_of_utxo (spent_utxo spend)) same.redeem
 
   pub kind_alike : kind_of again ≡ kind_of spend
@@ -150,7 +151,7 @@ module _ (spend : Spend) (later : Map) (same : SpendAlike spend.fields later) wh
       ∙ ap (kind_with (is_nested (spent_utxo spend))) program_alike
 
   open_alike : open_script again ≡ open_script spend
-  open_alike = ap (λ r. script_with r (field WITNESS_SCRIPT later)) program_alike ∙ ap (script_with (spent_program spend)) same.script
+  open_alike = ap (λ r. script_with r (field IN_WITNESS_SCRIPT later)) program_alike ∙ ap (script_with (spent_program spend)) same.script
 
 abbrev script_unless : Bool → Result Bytes State → Result Bytes State
 script_unless final script = cond final (Err state.Final) script

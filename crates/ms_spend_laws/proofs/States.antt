@@ -22,7 +22,8 @@ use Rattle.def_spend.specs.declared.Kind.{Kind}
 use Rattle.def_spend.specs.declared.Kind.TheVariants as kind
 use Rattle.def_spend.specs.declared.State.{State}
 use Rattle.def_spend.specs.declared.State.TheVariants as state
-use Rattle.def_spend.specs.Fields.{REDEEM_SCRIPT, WITNESS_SCRIPT, field, keys_in, signatures_in, asked_type}
+use Rattle.def_psbt.specs.Types.{IN_REDEEM_SCRIPT, IN_WITNESS_SCRIPT}
+use Rattle.def_spend.specs.Fields.{field, keys_in, signatures_in, asked_type}
 use Rattle.def_spend.specs.Utxo.{Utxo}
 use Rattle.def_spend.specs.Utxo as utxo
 use Rattle.def_spend.specs.Input.{Spend}
@@ -164,13 +165,13 @@ with_tells known nested redeem (Err s) o found = found
 
 -- what the Script of an input tells
 abbrev pub SpendTells : Spend → Result Bytes State → Type 0
-SpendTells spend r = Tells (spent_output spend) (field WITNESS_SCRIPT spend.fields) (kind_of spend) (script_sig_of spend) r
+SpendTells spend r = Tells (spent_output spend) (field IN_WITNESS_SCRIPT spend.fields) (kind_of spend) (script_sig_of spend) r
 
 spend_tells : (spend : Spend) → SpendTells spend (script_code spend)
 spend_tells spend = elim (cases_Bool (has_final spend.fields)) [
   | inl e ↦ rw e (λ h. h)
-  | inr e ↦ rw e (with_tells (spent_output spend) (is_nested (spent_utxo spend)) (field REDEEM_SCRIPT spend.fields) (spent_program spend)
-      (field WITNESS_SCRIPT spend.fields) (utxo_found (spent_utxo spend) (field REDEEM_SCRIPT spend.fields)))
+  | inr e ↦ rw e (with_tells (spent_output spend) (is_nested (spent_utxo spend)) (field IN_REDEEM_SCRIPT spend.fields) (spent_program spend)
+      (field IN_WITNESS_SCRIPT spend.fields) (utxo_found (spent_utxo spend) (field IN_REDEEM_SCRIPT spend.fields)))
 ]
 
 pub script_is : (spend : Spend) (script : Bytes) → script_code spend ≡ Ok script → SpendTells spend (Ok script)

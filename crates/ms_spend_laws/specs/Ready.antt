@@ -16,7 +16,8 @@ use Rattle.def_choice.specs.NonMalleable.{NonMalleable, given_with}
 use Rattle.def_promises.specs.Accepted.{IsAcceptedWithin, Unchangeable}
 use Rattle.def_psbt.specs.Transaction.{TransactionOutput}
 use Rattle.def_spend.specs.declared.State.TheVariants as state
-use Rattle.def_spend.specs.Fields.{WITNESS_SCRIPT, field, signatures_in}
+use Rattle.def_psbt.specs.Types.{IN_WITNESS_SCRIPT}
+use Rattle.def_spend.specs.Fields.{field, signatures_in}
 use Rattle.def_spend.specs.Utxo.{Utxo, utxo_of}
 use Rattle.def_spend.specs.Utxo as utxo
 use Rattle.def_spend.specs.Input.{Spend}
@@ -48,7 +49,7 @@ ReadyIsCanonical = OfEachIn state.Ready (λ input tree. Sat tree (assets_of inpu
 -- the spent output is its program, and the scriptSig empty, or it is P2SH of that program, and the scriptSig the one push of it
 pub record IsScriptWitness (input : Input) (tree : Tree) : Type 0 where
   pub kind : ends_in_script (kind_of input.spend) ≡ true
-  pub script : field WITNESS_SCRIPT input.spend.fields ≡ Some (script_of tree)
+  pub script : field IN_WITNESS_SCRIPT input.spend.fields ≡ Some (script_of tree)
   pub output : TransactionOutput
   pub spent : spent_output input.spend ≡ Some output
   pub guarded : IsGuardedBy (program_of (script_of tree)) output.script (script_sig_of input.spend)

@@ -9,6 +9,7 @@ ghost use Rattle.def_spend.specs.Utxo.{utxo_of, proved_output};
 ghost use Rattle.def_spend.specs.Reading.{has_final as the_has_final};
 ghost use Rattle.def_update.specs.Updated.{spent_script as the_spent_script};
 
+use def_psbt::types;
 use ms_psbt::Pairs;
 use ms_psbt_write::{final_script_sig, final_witness};
 use ms_transaction::{InputRef, OutputRef, TransactionRef, previous_transaction, spent_output};
@@ -73,8 +74,8 @@ pub fn spent_script<'a>(input: &InputRef<'_>, map: Pairs<'a>, again: Pairs<'a>) 
     requires { map ≡ again }
     ensures { option_map (λ b. b.now) result ≡ the_spent_script (utxo_of input.now.outpoint map.entry) }
 {
-    let claim = output_in(field(map, 0x01));
-    let Some(previous) = previous_in(field(again, 0x00)) else {
+    let claim = output_in(field(map, types::IN_WITNESS_UTXO));
+    let Some(previous) = previous_in(field(again, types::IN_NON_WITNESS_UTXO)) else {
         return Some(claim?.script());
     };
     if previous.id().as_slice() != input.id() {

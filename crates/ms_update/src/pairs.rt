@@ -7,6 +7,7 @@ ghost use Rattle.def_update.specs.Known.{typed, script_pairs, derivation as the_
 ghost use Rattle.ms_update.specs.Seen.{pair_at, key_at, known_at, types_of};
 
 use crate::known::{KnownKey, KnownOutput};
+use def_psbt::types;
 use ms_paths::Origin;
 use std::alloc::{AllocError, Global};
 
@@ -34,8 +35,8 @@ impl Owner {
         ensures { result ≡ (types_of self).redeem_script }
     {
         match self {
-            Owner::Input => 0x04,
-            Owner::Output => 0x00,
+            Owner::Input => types::IN_REDEEM_SCRIPT as u8,
+            Owner::Output => types::OUT_REDEEM_SCRIPT as u8,
         }
     }
 
@@ -44,8 +45,8 @@ impl Owner {
         ensures { result ≡ (types_of self).witness_script }
     {
         match self {
-            Owner::Input => 0x05,
-            Owner::Output => 0x01,
+            Owner::Input => types::IN_WITNESS_SCRIPT as u8,
+            Owner::Output => types::OUT_WITNESS_SCRIPT as u8,
         }
     }
 
@@ -54,8 +55,8 @@ impl Owner {
         ensures { result ≡ (types_of self).bip32_derivation }
     {
         match self {
-            Owner::Input => 0x06,
-            Owner::Output => 0x02,
+            Owner::Input => types::IN_BIP32_DERIVATION as u8,
+            Owner::Output => types::OUT_BIP32_DERIVATION as u8,
         }
     }
 }

@@ -24,7 +24,8 @@ use Rattle.def_spend.specs.declared.State.TheVariants as state
 use Rattle.def_spend.specs.declared.Verification.{Verification}
 use Rattle.def_spend.specs.declared.Verification.TheVariants.{Verified}
 use Rattle.def_spend.specs.Amount.{known_amount}
-use Rattle.def_spend.specs.Fields.{WITNESS_SCRIPT, field, keys_in, last_byte}
+use Rattle.def_psbt.specs.Types.{IN_WITNESS_SCRIPT}
+use Rattle.def_spend.specs.Fields.{field, keys_in, last_byte}
 use Rattle.def_spend.specs.Utxo.{Utxo, utxo_of, amount_of}
 use Rattle.def_spend.specs.Utxo as utxo
 use Rattle.def_spend.specs.SignatureHash.{signed_prevouts, signed_sequences, signed_outputs}
@@ -113,7 +114,7 @@ fits_script : (input : Input) (tree : Tree) (script : Bytes) → IsChosen input 
 fits_script input tree script c = let tried = c.tried in subst (FitsWitness (stack_of input)) tried.decoded.reading.same (fits_witness input tree script c)
 
 script_case : (input : Input) (tree : Tree) (script : Bytes) → IsChosen input tree script
-    → IsScriptFor (spent_output input.spend) (field WITNESS_SCRIPT input.spend.fields) (kind_of input.spend) (script_sig_of input.spend) script → IsExecuted input script
+    → IsScriptFor (spent_output input.spend) (field IN_WITNESS_SCRIPT input.spend.fields) (kind_of input.spend) (script_sig_of input.spend) script → IsExecuted input script
 script_case input tree script c found =
     let tried = c.tried in
     let text : witness_of input ≡ witness_text (stack_of input) script =

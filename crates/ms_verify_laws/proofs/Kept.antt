@@ -8,7 +8,8 @@ use Rattle.def_psbt.specs.Transaction.{Outpoint}
 use Rattle.def_psbt.specs.TransactionReading.{network_transaction_of}
 use Rattle.def_psbt.specs.Forms.{output_of}
 use Rattle.def_psbt.specs.Map.{Pair, Map, type_of}
-use Rattle.def_spend.specs.Fields.{NON_WITNESS_UTXO, WITNESS_UTXO, has_type, field}
+use Rattle.def_psbt.specs.Types.{IN_NON_WITNESS_UTXO, IN_WITNESS_UTXO}
+use Rattle.def_spend.specs.Fields.{has_type, field}
 use Rattle.def_spend.specs.Utxo.{Utxo, utxo_by, utxo_of}
 use Rattle.def_spend.specs.Finalized.{is_cleared, is_kept, final_pairs, final_map}
 
@@ -43,5 +44,5 @@ utxo_with outpoint previous output = utxo_by (option_and_then network_transactio
 -- the spent output stays
 pub kept_utxo : (outpoint : Outpoint) (fields : Map) (script_sig witness : Bytes) → utxo_of outpoint (final_map fields script_sig witness) ≡ utxo_of outpoint fields
 kept_utxo outpoint fields script_sig witness =
-    ap (λ (o : Option Bytes). utxo_with outpoint o (field WITNESS_UTXO (final_map fields script_sig witness))) (kept_field NON_WITNESS_UTXO refl refl refl fields script_sig witness)
-    ∙ ap (λ (o : Option Bytes). utxo_with outpoint (field NON_WITNESS_UTXO fields) o) (kept_field WITNESS_UTXO refl refl refl fields script_sig witness)
+    ap (λ (o : Option Bytes). utxo_with outpoint o (field IN_WITNESS_UTXO (final_map fields script_sig witness))) (kept_field IN_NON_WITNESS_UTXO refl refl refl fields script_sig witness)
+    ∙ ap (λ (o : Option Bytes). utxo_with outpoint (field IN_NON_WITNESS_UTXO fields) o) (kept_field IN_WITNESS_UTXO refl refl refl fields script_sig witness)

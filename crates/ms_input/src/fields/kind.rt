@@ -3,6 +3,8 @@
 ghost use Rattle.std.specs.Prelude.{◌≡◌};
 ghost use Rattle.ms_input.specs.Kinds.{kind_of as the_kind_of};
 
+use def_psbt::types;
+
 /// A field that counts for spending an input, or another one.
 #[derive(Clone, Copy, Debug, PartialEq, Eq)]
 pub enum Kind {
@@ -34,25 +36,25 @@ pub enum Kind {
 pub fn kind_of(type_number: u64) -> Kind
     ensures { result ≡ the_kind_of type_number }
 {
-    if type_number == 0x00 {
+    if type_number == types::IN_NON_WITNESS_UTXO {
         Kind::Previous
-    } else if type_number == 0x01 {
+    } else if type_number == types::IN_WITNESS_UTXO {
         Kind::Output
-    } else if type_number == 0x02 {
+    } else if type_number == types::IN_PARTIAL_SIG {
         Kind::Signature
-    } else if type_number == 0x03 {
+    } else if type_number == types::IN_SIGHASH_TYPE {
         Kind::Asked
-    } else if type_number == 0x04 {
+    } else if type_number == types::IN_REDEEM_SCRIPT {
         Kind::Redeem
-    } else if type_number == 0x05 {
+    } else if type_number == types::IN_WITNESS_SCRIPT {
         Kind::Script
-    } else if type_number == 0x06 {
+    } else if type_number == types::IN_BIP32_DERIVATION {
         Kind::Derivation
-    } else if type_number == 0x07 {
+    } else if type_number == types::IN_FINAL_SCRIPTSIG {
         Kind::FinalScriptSig
-    } else if type_number == 0x08 {
+    } else if type_number == types::IN_FINAL_SCRIPTWITNESS {
         Kind::FinalWitness
-    } else if 0x0a <= type_number && type_number <= 0x0d {
+    } else if types::IN_RIPEMD160 <= type_number && type_number <= types::IN_HASH256 {
         Kind::Preimage
     } else {
         Kind::Other
