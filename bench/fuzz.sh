@@ -1,28 +1,29 @@
 #!/bin/sh
 # Fuzzes the proved library with libFuzzer, which follows its coverage, and the proved program beside it: msat_answer and msat by words, texts,
-# asset files, run files, plan files, Scripts and keys; or msat_psbt_answer and msat-psbt by PSBTs; or msat_signature and msat_point by keys,
-# hashes and signatures, with libsecp256k1 in the program's place. It begins with the inputs in bench/fuzz/seeds/, the cases of examples/,
-# generated texts, and the words of bench/fuzz/msat.dict, or psbt.dict. bench/fuzz/harness.c, psbt.c and curve.c say what stops it. For this the
-# archive is compiled once more, from what was proved, with a counter at each branch: by the kit's compiler with one word more (.ci/archive).
+# asset files, run files, plan files, Scripts and keys; or msat_psbt_answer and msat-psbt by PSBTs; or msat_descriptor_answer and msat-descriptor by
+# descriptors; or msat_signature and msat_point by keys, hashes and signatures, with libsecp256k1 in the program's place. It begins with the inputs
+# in bench/fuzz/seeds/, the cases of examples/, generated texts, and the words of bench/fuzz/msat.dict, psbt.dict or descriptor.dict.
+# bench/fuzz/harness.c, psbt.c, descriptor.c and curve.c say what stops it. For this the archive is compiled once more, from what was proved, with a counter at each branch: by the kit's compiler with one word more (.ci/archive).
 #
 # The first process traces comparisons, so that their operands are tried, and prefers inputs with rare branches; it hands what it finds to the
 # others, which do without either and make three times as many executions. libFuzzer's profile of compared values isn't kept: with it a tenth of the
 # executions is made in the same time, and fewer branches are covered.
 #
 # The executions are made in slices, of which each one is written down at its end: in bench/results/fuzz_runs.tsv with the sum of the
-# archive that was fuzzed, and by commands and statuses in bench/results/fuzz.tsv, fuzz_psbt.tsv or fuzz_curve.tsv. So a run that is broken off loses a slice
+# archive that was fuzzed, and by commands and statuses in bench/results/fuzz.tsv, fuzz_psbt.tsv, fuzz_descriptor.tsv or fuzz_curve.tsv. So a run that is broken off loses a slice
 # at most, and the next one goes on from that count, with other random numbers. After 1,000,000 executions and more the least set of inputs that
 # covers the same branches is put into bench/fuzz/seeds/.
 #
 # Ends with 1 where an input crashed, took over a second (or FUZZ_TIMEOUT seconds, on a busy machine), or broke what the harness asks; that
 # input is kept in bench/fuzz/found/. Wants clang with libFuzzer (Debian's clang and libclang-rt-14-dev), objcopy, Python and rt, and the
 # library and the programs to be built (.ci/run), and for signatures Debian's libsecp256k1-1.
-# Usage: bench/fuzz.sh [msat-psbt | signatures] [EXECUTIONS [PROCESSES]]
+# Usage: bench/fuzz.sh [msat-psbt | msat-descriptor | signatures] [EXECUTIONS [PROCESSES]]
 . "$(dirname "$0")/lib.sh"
 wants clang nm objcopy python3 rt tar gzip flock
 own=msat harness=harness words=-dict=$top/bench/fuzz/msat.dict longest=6000 linked=-Wl,--wrap=read,--wrap=write
 case ${1:-} in
 msat-psbt) shift && name=fuzz_psbt own=msat_psbt harness=psbt words=-dict=$top/bench/fuzz/psbt.dict longest=20000 ;;
+msat-descriptor) shift && name=fuzz_descriptor own=msat_descriptor harness=descriptor words=-dict=$top/bench/fuzz/descriptor.dict ;;
 signatures) shift && name=fuzz_curve own=signatures harness=curve words= longest=400 linked=-l:libsecp256k1.so.1 ;;
 esac
 executions=${1:-10000000} processes=${2:-$(nproc)}
@@ -92,6 +93,20 @@ if sys.argv[3] == "msat_psbt":
             continue
         made |= {letter + psbt for letter in (b"f", b"i", b"e", b"h", b"v", b"F", b"I", b"H")}
         made.add(b"c" + 2 * ((base64.b64encode(psbt) if psbt.startswith(b"psbt\xff") else psbt.replace(b"\n", b"")) + b"\n"))
+    for number, input in enumerate(sorted(made)):
+        (seeds / f"{number:05}").write_bytes(input)
+    sys.exit(print(f"{len(made)} seeds"))
+if sys.argv[3] == "msat_descriptor":
+    import importlib.machinery, importlib.util
+    loader = importlib.machinery.SourceFileLoader("rows", str(top / ".ci/descriptor"))
+    rows = importlib.util.module_from_spec(importlib.util.spec_from_loader("rows", loader))
+    sys.dont_write_bytecode = True
+    loader.exec_module(rows)
+    made = set()
+    for file in (top / "examples/descriptors").glob("*.rows"):
+        for _, words, *_ in rows.rows_of(file):
+            for text in (word.encode() for word in words if "(" in word and len(word) < 5000):
+                made |= {b"c" + bytes(6) + text, b"d" + bytes(6) + text, b"t\1\2" + bytes(4) + text, b"r\0\3\0\0\0\x0e" + text}
     for number, input in enumerate(sorted(made)):
         (seeds / f"{number:05}").write_bytes(input)
     sys.exit(print(f"{len(made)} seeds"))

@@ -6,8 +6,8 @@ _msat_explain() {
     case ${COMP_WORDS[COMP_CWORD - 1]} in
     -f | --file | --keys | --assets | --html) COMPREPLY=($(compgen -f -- "$word")) ;;
     --color) COMPREPLY=($(compgen -W "auto always never" -- "$word")) ;;
-    --key) ;;
-    *) COMPREPLY=($(compgen -W "-f --file --key --keys --assets --html --json --consensus --color --help --version" -- "$word")) ;;
+    --key | --branch | --index) ;;
+    *) COMPREPLY=($(compgen -W "-f --file --key --keys --assets --branch --index --html --json --consensus --color --help --version" -- "$word")) ;;
     esac
 }
 complete -o default -F _msat_explain msat-explain

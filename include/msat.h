@@ -25,7 +25,8 @@
  * Most memory is taken for files: one of 1,048,576 bytes, the longest that is read, takes up to 133 MiB of heap where it is full of small
  * values; longer ones are refused at once. A line of questions takes as much, and all their answers are held besides. Texts, arrays and a
  * file with all that may be held take up to 6 MiB. Of the PSBTs of 16,777,216 bytes whose heap was measured, one of many inputs whose
- * scripts want 99 keys each took the most: 232 MiB, by `inspect`. Of the stack those of the tests took at most 158 KiB.
+ * scripts want 99 keys each took the most: 232 MiB, by `inspect`. Of the stack those of the tests took at most 158 KiB. Of the descriptors of the
+ * tests `check` and `derive` took at most 7 MiB of heap.
  *
  * A satisfaction is canonical where BIP 379's table makes it by rows that it doesn't mark as non-canonical, with what is held:
  * its signatures, for a hash the first of its preimages that has it, for a key hash the condition's own key, and 32 zero
@@ -102,6 +103,21 @@ enum {
 };
 uint32_t msat_psbt_answer(size_t count, const char *words, size_t words_len, const void *source, size_t source_len, char *report,
                           size_t report_len, size_t *needed);
+
+/* Answers the words of a command line, as `msat-descriptor` does where its standard input holds `source`: `check D`, or
+ * `derive [--testnet or --regtest] [--branch B] D INDEX [COUNT]`, of an output descriptor D (BIPs 380, 382, 383, 389), or `update D COUNT` of D and
+ * a PSBT (BIP 174, BIP 370), which is `source`, as its bytes or as base64; any others are MSAT_USAGE. `update` alone reads the source. The rest is as in
+ * msat_answer. MSAT_DESCRIPTOR_REFUSED comes where D is none that is read, or where it doesn't give what is asked for, with why. Of any other D
+ * `check` answers MSAT_DONE, or MSAT_DESCRIPTOR_UNFIT where its condition isn't sane at branch 0 and index 0, and says in both what D is; `derive`
+ * always MSAT_DONE, with the outputs of COUNT indices from INDEX on. */
+enum {
+    MSAT_DESCRIPTOR_REFUSED = 2,      /* the descriptor is refused, or what it has at a branch and an index, and why is told */
+    MSAT_DESCRIPTOR_PSBT_REFUSED = 3, /* of `update` alone: the source holds no PSBT, or one with a pair that bars what D says, and why is told */
+    MSAT_DESCRIPTOR_UNFIT = 4,        /* of `check` alone, as above */
+    MSAT_DESCRIPTOR_NO_INPUT = 4      /* of `update` alone: the PSBT was written, and no input of it is of D */
+};
+uint32_t msat_descriptor_answer(size_t count, const char *words, size_t words_len, const void *source, size_t source_len,
+                                char *report, size_t report_len, size_t *needed);
 
 /* Why a text, a file, or arrays in its place are refused, as plain numbers. What isn't named at its kind is 0. It is written by the
  * codes MSAT_TEXT_REFUSED and MSAT_FILE_REFUSED alone; after any other code it is as it was before the call. */
@@ -509,6 +525,16 @@ static inline uint32_t msat_psbt_answer_asserted(size_t count, const char *words
     return msat_psbt_answer(count, words, words_len, source, source_len, report, report_len, needed);
 }
 
+static inline uint32_t msat_descriptor_answer_asserted(size_t count, const char *words, size_t words_len, const void *source,
+                                                       size_t source_len, char *report, size_t report_len, size_t *needed) {
+    assert(MSAT_IS_BUFFER(words, words_len) && MSAT_IS_BUFFER(source, source_len) && MSAT_IS_BUFFER(report, report_len));
+    assert(MSAT_IS_VALUE(needed));
+    assert(MSAT_IS_APART(report, report_len, words, words_len, source, source_len));
+    assert(MSAT_IS_APART(needed, sizeof *needed, words, words_len, source, source_len));
+    assert(MSAT_ARE_APART(report, report_len, needed, sizeof *needed));
+    return msat_descriptor_answer(count, words, words_len, source, source_len, report, report_len, needed);
+}
+
 static inline uint32_t msat_script_asserted(bool consensus, const char *text, size_t text_len, uint8_t *script,
                                             size_t script_len, size_t *needed, struct msat_reason *reason) {
     assert(MSAT_IS_BUFFER(text, text_len) && MSAT_IS_BUFFER(script, script_len));
@@ -704,6 +730,7 @@ static inline uint32_t msat_point_asserted(const uint8_t *key, size_t key_len, u
  * or MSAT_ASSERT is left out. */
 #define msat_answer(...) msat_answer_asserted(__VA_ARGS__)
 #define msat_psbt_answer(...) msat_psbt_answer_asserted(__VA_ARGS__)
+#define msat_descriptor_answer(...) msat_descriptor_answer_asserted(__VA_ARGS__)
 #define msat_script(...) msat_script_asserted(__VA_ARGS__)
 #define msat_check(...) msat_check_asserted(__VA_ARGS__)
 #define msat_least_weight(...) msat_least_weight_asserted(__VA_ARGS__)

@@ -33,7 +33,8 @@ struct example {
     struct bytes source;
     struct bytes report;
     uint32_t status;
-    bool is_psbt; /* one of msat-psbt */
+    bool is_psbt; /* one of msat-psbt, or of msat-descriptor */
+    bool is_descriptor; /* one of msat-descriptor */
 };
 
 static const char *chars(struct bytes text) {
@@ -107,6 +108,7 @@ static struct example read_example(const char *folder) {
         example.source = psbt;
     else
         free(psbt.at);
+    free(read_file(folder, "descriptor", &example.is_descriptor).at);
     example.report = read_file(folder, "report", NULL);
     example.report.at = realloc(example.report.at, example.report.length + 1);
     example.report.at[example.report.length] = 0; /* so that numbers in it end */
@@ -119,6 +121,8 @@ static struct example read_example(const char *folder) {
 
 /* The answer of these words over a source, by the call of the example's program. */
 static uint32_t ask(const struct example *example, struct bytes words, struct bytes source, char *report, size_t length, size_t *needed) {
+    if (example->is_descriptor)
+        return msat_descriptor_answer(example->count, chars(words), words.length, source.at, source.length, report, length, needed);
     if (example->is_psbt)
         return msat_psbt_answer(example->count, chars(words), words.length, source.at, source.length, report, length, needed);
     return msat_answer(example->count, chars(words), words.length, source.at, source.length, report, length, needed);
@@ -893,10 +897,13 @@ static void break_demand(int which) {
     case 70: msat_point(raw, 1, raw + 8, (size_t)-1, numbers); break;
     case 71: msat_point(raw, 1, raw + 8, 8, NULL); break;
     case 72: msat_point(raw, 8, raw + 4, 8, numbers); break;
+    case 73: msat_descriptor_answer(1, bytes, (size_t)-1, NULL, 0, bytes + 8, 8, numbers); break;
+    case 74: msat_descriptor_answer(1, bytes, 2, bytes, (size_t)-1, bytes + 8, 8, numbers); break;
+    case 75: msat_descriptor_answer(1, bytes, 2, NULL, 0, bytes + 8, (size_t)-1, numbers); break;
     }
 }
 
-enum { DEMANDS = 73 };
+enum { DEMANDS = 76 };
 
 static void try_demands(void) {
     for (int which = 0; which < DEMANDS; which++) {

@@ -1,6 +1,6 @@
 /* Measures what a call takes at most, of the stack and of the heap, over texts and files that ask for the most: long ones, deep ones,
- * and files of as many small values as they may have; and over PSBTs. Prints both, of the heap for each PSBT apart, and ends with 1 where
- * one is over what the header tells.
+ * and files of as many small values as they may have; over PSBTs; and over descriptors. Prints both, of the heap for each PSBT apart, and
+ * ends with 1 where one is over what the header tells.
  * Usage: heap MOST-STACK MOST-HEAP [MOST-HEAP-OF-THIS PSBT]..    in bytes, and files of PSBTs
  * Built with -Wl,--wrap=malloc,--wrap=realloc,--wrap=free, and over the archive. */
 #include <malloc.h>
@@ -11,7 +11,7 @@
 #include <string.h>
 #include <sys/mman.h>
 
-enum { STACK = 1 << 20, ROOM = 1 << 21, PSBT_ROOM = 1 << 26 };
+enum { STACK = 1 << 20, ROOM = 1 << 21, PSBT_ROOM = 1 << 26, MOST_OF_DESCRIPTOR = 8 << 20 };
 
 static size_t held, most;
 void *__real_malloc(size_t size);
@@ -287,6 +287,64 @@ static void ask_psbt(const char *name) {
     }
 }
 
+/* Descriptors that take the most: of 65,536 bytes with one key and with as many as fit, of a long path, of 16 branches, deep, and refused at their
+ * ends; each is checked, and derived from at several indices of branch 0. */
+static char *put_keys(char *at, const char *key, int count) {
+    for (int i = 0; i < count; i++)
+        at += sprintf(at, ",%s/%d/*", key, i);
+    return at;
+}
+
+static void write_descriptor(int which, char *at) {
+    static const char key[] = "xpub661MyMwAqRbcFW31YEwpkMuc5THy2PSt5bDMsktWQcFF8syAmRUapSCGu8ED9W6oDMSgv6Zz8idoc4a6mr8BDzTJY47LJhkJ8UB7WEGuduB";
+    switch (which) {
+    case 0: at = stpcpy(put_keys(stpcpy(at, "wsh(multi(1"), key, 20), "))"); break;
+    case 1: at = stpcpy(put_keys(stpcpy(at, "sh(wsh(sortedmulti(1"), key, 15), ")))"); break;
+    case 2:
+        at += sprintf(at, "wpkh(%s", key);
+        at = stpcpy(repeat(at, "/2147483647", 254), "/*)");
+        break;
+    case 3: sprintf(at, "wpkh(%s/<0;1;2;3;4;5;6;7;8;9;10;11;12;13;14;15>/*)", key); break;
+    case 4:
+        at = repeat(stpcpy(at, "wsh("), "or_i(0,", 250);
+        at += sprintf(at, "pk(%s/*)", key);
+        repeat(at, ")", 251);
+        break;
+    case 5:
+        at = stpcpy(at, "wsh(thresh(1,0");
+        at = repeat(at, ",a:0", 16000);
+        stpcpy(at, "))");
+        break;
+    case 6: put_keys(stpcpy(at, "wsh(multi(1"), key, 550); break;
+    case 7:
+        at += sprintf(at, "wsh(thresh(1,pk(%s/*)", key);
+        for (int i = 0; i < 95; i++)
+            at += sprintf(at, ",s:pk(%s/%d/*)", key, i);
+        stpcpy(at, "))");
+        break;
+    }
+}
+
+static void *ask_descriptors(void *given) {
+    static char answer[PSBT_ROOM];
+    (void)given;
+    for (int which = 0; which < 8; which++)
+        for (int derives = 0; derives < 2; derives++) {
+            char *at = stpcpy(words, derives ? "derive" : "check") + 1;
+            write_descriptor(which, at);
+            at += strlen(at) + 1;
+            if (derives)
+                at = stpcpy(at, "0") + 1, at = stpcpy(at, "9") + 1;
+            size_t needed = 0;
+            uint32_t code = msat_descriptor_answer(derives ? 4 : 2, words, (size_t)(at - words), NULL, 0, answer, sizeof answer, &needed);
+            if (code == MSAT_NO_MEMORY)
+                exit(2);
+            if (getenv("HEAP_SHOWS"))
+                printf("heap: descriptor %d, %s, answers %u with %zu bytes\n", which, words, code, needed);
+        }
+    return NULL;
+}
+
 static bool is_over;
 
 /* Each PSBT, behind the most of the heap that it may take. */
@@ -340,6 +398,8 @@ int main(int argc, char **argv) {
     printf("heap: a call takes at most %zu bytes of stack and %zu of heap\n", stack, heap);
     size_t psbt_stack = stack_of(ask_psbts, argv + 3);
     printf("heap: with a PSBT at most %zu bytes of stack\n", psbt_stack);
+    size_t before = most = held, descriptor_stack = stack_of(ask_descriptors, NULL), descriptor_heap = most - before;
+    printf("heap: with a descriptor at most %zu bytes of stack and %zu of heap\n", descriptor_stack, descriptor_heap);
     size_t most_stack = strtoull(argv[1], NULL, 10);
-    return is_over || stack > most_stack || psbt_stack > most_stack || heap > strtoull(argv[2], NULL, 10);
+    return is_over || stack > most_stack || psbt_stack > most_stack || descriptor_stack > most_stack || descriptor_heap > MOST_OF_DESCRIPTOR || heap > strtoull(argv[2], NULL, 10);
 }

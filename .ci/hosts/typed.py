@@ -4,6 +4,12 @@ from typing import Optional, Union
 import msat
 
 
+def addresses(descriptor: str, count: int) -> list[str]:
+    told: msat.Descriptor = msat.descriptor_check(descriptor)
+    derived: tuple[msat.Derived, ...] = msat.derive_all(descriptor, range(count), network="test")
+    return [it.address for it in derived] if told.unfit is None else []
+
+
 def either(psbt: Union[str, bytes]) -> Union[str, bytes]:
     return msat.extract(msat.finalize(psbt))
 

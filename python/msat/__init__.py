@@ -22,6 +22,9 @@ from typing import NoReturn, Optional, Sequence
 from . import _library
 from ._many import ask_all
 from .curve import point, signature
+from .descriptor import Derived, DerivedKey, Descriptor, DescriptorRefused, derive, derive_all
+from .descriptor import answer as descriptor_answer
+from .descriptor import check as descriptor_check
 from .errors import (
     FileRefused,
     MsatError,
@@ -83,6 +86,8 @@ __all__ = [
     "run", "satisfy", "script", "witness",
     # of signatures and keys
     "point", "signature",
+    # of descriptors
+    "Derived", "DerivedKey", "Descriptor", "DescriptorRefused", "derive", "derive_all", "descriptor_answer", "descriptor_check",
     # of PSBTs
     "Check", "Fee", "Hashes", "Input", "Inspection", "NoCurve", "NotFinal", "Output", "PsbtRefused", "Validity", "combine",
     "extract", "finalize", "hashes", "inspect", "validity", "verify",

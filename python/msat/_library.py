@@ -92,6 +92,7 @@ _CALLS: dict[str, list[Any]] = {
     "msat_version": [],
     "msat_answer": [ctypes.c_size_t, *_READ, *_READ, *_BYTES, _SIZE],
     "msat_psbt_answer": [ctypes.c_size_t, *_READ, *_READ, *_BYTES, _SIZE],
+    "msat_descriptor_answer": [ctypes.c_size_t, *_READ, *_READ, *_BYTES, _SIZE],
     "msat_script": [ctypes.c_bool, *_READ, *_BYTES, _SIZE, _REASON],
     "msat_check": [ctypes.c_bool, *_READ, ctypes.POINTER(Facts), _REASON],
     "msat_least_weight": [ctypes.c_bool, *_READ, *_READ, ctypes.POINTER(ctypes.c_uint64), _REASON],
@@ -125,8 +126,8 @@ if version()[0] != MAJOR:
     raise ImportError(f"msat: {_library._name} has the version {'.'.join(map(str, version()))}, and this package is for {MAJOR}")
 
 
-def answer(words: Sequence[bytes], source: bytes, room: int = 32768) -> tuple[int, bytes]:
-    """The code and the whole report of a call of msat_answer. Codes 7 and 11 come without a report.
+def answer(words: Sequence[bytes], source: bytes, room: int = 32768, call: str = "msat_answer") -> tuple[int, bytes]:
+    """The code and the whole report of a call of msat_answer, or of another that takes words. Codes 7 and 11 come without a report.
 
     The report is given room for so many bytes at first, and for all that it needs where it is longer.
     """
@@ -134,7 +135,7 @@ def answer(words: Sequence[bytes], source: bytes, room: int = 32768) -> tuple[in
     needed = ctypes.c_size_t(0)
     while True:
         report = (ctypes.c_uint8 * room)()
-        code = _library.msat_answer(
+        code = getattr(_library, call)(
             len(words), joined, len(joined), source, len(source), report, room, ctypes.byref(needed)
         )
         if code in (NO_MEMORY, UNREADABLE):

@@ -13,7 +13,7 @@ use Rattle.def_sane.specs.Unfit.{first_unfit}
 use Rattle.def_answer.specs.Lines.{line, script_line}
 use Rattle.def_address.specs.declared.Network.{Network}
 use Rattle.def_descriptor.specs.Expression.{Expression}
-use Rattle.def_descriptor.specs.Pieces.{place_of}
+use Rattle.def_descriptor.specs.Pieces.{Piece, place_of}
 use Rattle.def_descriptor.specs.Parts.{Body, miniscript, sorted, single}
 use Rattle.def_descriptor.specs.Gives.{expressions_of, keys_at, pieces_in, text_of, HasTree, key_program, tree_program, output_of, address_at}
 use Rattle.def_descriptor.specs.declared.DescriptorFault.{DescriptorFault}
@@ -25,7 +25,9 @@ use Rattle.ms_descriptor.specs.declared.parts.Body.TheVariants as body
 use Rattle.ms_descriptor.specs.declared.expression.Expression.{Expression as OwnExpression}
 use Rattle.ms_descriptor.specs.Bodies.{body_at}
 use Rattle.ms_outputs.specs.declared.given.Given.{Given}
-use Rattle.ms_outputs.specs.Given.{IsProgram, IsGiven}
+use Rattle.ms_key_laws.specs.Laws.{HasSomeTree}
+use Rattle.ms_outputs.specs.Given.{IsProgram, IsScripted, IsGiven}
+use Rattle.ms_outputs.proofs.Together.{scripted}
 use Rattle.ms_descriptor_replies.specs.declared.judging.Place.{Place as Own}
 use Rattle.ms_descriptor_replies.specs.declared.judging.Place.TheVariants as own
 use Rattle.ms_descriptor_replies.specs.declared.judging.Judgement.TheVariants as judgement
@@ -63,6 +65,37 @@ pub finds_no_key : (network : Option Network) (d : Descriptor) (branch index at 
 finds_no_key network d branch index at reason is found =
     (nothing (no_key at), subst (λ (z : Result (List Key) ℕ). IsByKeys d.body z (nothing (no_key at))) (sym is) refl, found)
 
+-- ---- the tree of a text with keys
+
+-- a text that has a tree with its keys has one
+pub spelled_tree : (d : Descriptor) (keys : List Key) (text : Bytes) → text ≡ text_of d.body keys → ¬ IsSingle d.body → HasSomeTree d.body keys → TextHasTree text
+spelled_tree d keys text t other h = by_body d.body keys text t other h
+  where
+    by_body : (body : Body) (keys : List Key) (text : Bytes) → text ≡ text_of body keys → ¬ IsSingle body → HasSomeTree body keys → TextHasTree text
+    by_body (miniscript ps) keys text t other h = (h.0, h.2.0, subst (λ (z : Bytes). TextReads z h.0 h.2.0) (sym t) h.2.1)
+    by_body (sorted ps) keys text t other h = (h.0, h.2.0, subst (λ (z : Bytes). TextReads z h.0 h.2.0) (sym t) h.2.1)
+    by_body (single expression) keys text t other h = absurd (other (expression, refl))
+
+module _ (network : Option Network) (d : Descriptor) (branch index : ℕ) (keys : List Key) (text : Bytes) (k : keys_at branch index (expressions_of d.body) ≡ Ok keys)
+    (t : text ≡ text_of d.body keys) (other : ¬ IsSingle d.body) where
+  module _ (tree : Tree) (offsets : List ℕ) (reads : TextReads text tree offsets) where
+    abbrev places : List ℕ
+    places = map (place_of 0 (pieces_in d.body)) offsets
+
+    own_reads : TextReads (text_of d.body keys) tree offsets
+    own_reads = subst (λ (z : Bytes). TextReads z tree offsets) t reads
+
+    at_tree : (place : Place) → place ≡ judged keys tree places (first_unfit tree) → IsAt d.body branch index place
+    at_tree place e = at_keys d.body branch index keys place k (with_keys d.body keys place other (tree, places, (offsets, own_reads, refl), e))
+
+    finds_unfit : (reason : Own) (why : Unfit) → first_unfit tree ≡ Some why → IsFound network d (nothing (unfit places why)) reason
+        → Finds network d branch index reason
+    finds_unfit reason why some found =
+        (nothing (unfit places why), at_tree (nothing (unfit places why)) (ap (judged keys tree places) (sym some)), found)
+
+  pub finds_reason : (reason : Vec ℕ Global) → TellsOf text (pieces_in d.body) (judgement.Unfit reason) → Finds network d branch index (own.Nothing reason)
+  finds_reason reason h = finds_unfit h.0 h.1 h.2 (own.Nothing reason) h.3.0 h.3.1 h.3.2
+
 -- ---- what is given
 
 module _ (network : Option Network) (d : Descriptor) (branch index : ℕ) (given : Given) (g : IsGiven d.body d.under network branch index given) where
@@ -91,49 +124,35 @@ module _ (network : Option Network) (d : Descriptor) (branch index : ℕ) (given
       )
 
   module _ (other : ¬ IsSingle d.body) where
-    pub has_tree : TextHasTree given.text.items
-    has_tree =
-        let tree = of_program d.body given.keys.items given.script given.program.items other g.program in
-        (tree.0, tree.2.0, subst (λ (z : Bytes). TextReads z tree.0 tree.2.0) (sym g.text) tree.2.1)
+    finds_sane : (tree : Tree) (offsets : List ℕ) (reads : TextReads given.text.items tree offsets) (measures : Measures) → first_unfit tree ≡ None
+        → IsMeasured tree measures → Finds network d branch index (own.Tree given measures)
+    finds_sane tree offsets reads measures none measured =
+        let found = of_program d.body given.keys.items given.script given.program.items other g.program in
+        let place = map (place_of 0 (pieces_in d.body)) offsets in
+        let own_text = subst (λ (z : Bytes). TextReads z tree offsets) g.text reads in
+        let same : found.0 ≡ tree = (one_tree found.2.1.spelled own_text.spelled).0 in
+        let script : given.script ≡ Some (script_of tree) = found.3 ∙ ap (λ (z : Tree). Some (script_of z)) same in (
+          of_tree given.keys.items tree,
+          at_tree network d branch index given.keys.items given.text.items g.keys g.text other tree offsets reads (of_tree given.keys.items tree)
+              (ap (judged given.keys.items tree place) (sym none)),
+          (
+            is_output (tree_program tree) (condition_lines d.body given.keys.items tree) given.keys.items (found.4 ∙ ap tree_program same)
+                (ap (λ (z : Option Bytes). condition_of z given.text.items) script
+                ∙ ap (λ (z : Bytes). script_line (script_of tree) ++ line (codes "text " ++ z)) g.text)
+                refl,
+            measured,
+          ),
+        )
 
-    module _ (tree : Tree) (offsets : List ℕ) (reads : TextReads given.text.items tree offsets) where
-      abbrev places : List ℕ
-      places = map (place_of 0 (pieces_in d.body)) offsets
+    pub finds_tree : (measures : Measures) (script : Bytes) → TellsOf given.text.items (pieces_in d.body) (judgement.Sane measures script)
+        → Finds network d branch index (own.Tree given measures)
+    finds_tree measures script h = finds_sane h.0 h.1 h.2 measures h.3.0 h.3.1
 
-      own_reads : TextReads (text_of d.body given.keys.items) tree offsets
-      own_reads = subst (λ (z : Bytes). TextReads z tree offsets) g.text reads
-
-      at_tree : (place : Place) → place ≡ judged given.keys.items tree places (first_unfit tree) → IsAt d.body branch index place
-      at_tree place e =
-          at_keys d.body branch index given.keys.items place g.keys
-          (with_keys d.body given.keys.items place other (tree, places, (offsets, own_reads, refl), e))
-
-      finds_sane : (measures : Measures) → first_unfit tree ≡ None → IsMeasured tree measures → Finds network d branch index (own.Tree given measures)
-      finds_sane measures none measured =
-          let found = of_program d.body given.keys.items given.script given.program.items other g.program in
-          let same : found.0 ≡ tree = (one_tree found.2.1.spelled own_reads.spelled).0 in
-          let script : given.script ≡ Some (script_of tree) = found.3 ∙ ap (λ (z : Tree). Some (script_of z)) same in (
-            of_tree given.keys.items tree,
-            at_tree (of_tree given.keys.items tree) (ap (judged given.keys.items tree places) (sym none)),
-            (
-              is_output (tree_program tree) (condition_lines d.body given.keys.items tree) given.keys.items (found.4 ∙ ap tree_program same)
-                  (ap (λ (z : Option Bytes). condition_of z given.text.items) script
-                  ∙ ap (λ (z : Bytes). script_line (script_of tree) ++ line (codes "text " ++ z)) g.text)
-                  refl,
-              measured,
-            ),
-          )
-
-      finds_unfit : (reason : Own) (why : Unfit) → first_unfit tree ≡ Some why → IsFound network d (nothing (unfit places why)) reason
-          → Finds network d branch index reason
-      finds_unfit reason why some found =
-          (nothing (unfit places why), at_tree (nothing (unfit places why)) (ap (judged given.keys.items tree places) (sym some)), found)
-
-    pub finds_tree : (measures : Measures) → TellsOf given.text.items (pieces_in d.body) (judgement.Sane measures) → Finds network d branch index (own.Tree given measures)
-    finds_tree measures h = finds_sane h.0 h.1 h.2 measures h.3.0 h.3.1
-
-    pub finds_reason : (reason : Vec ℕ Global) → TellsOf given.text.items (pieces_in d.body) (judgement.Unfit reason) → Finds network d branch index (own.Nothing reason)
-    finds_reason reason h = finds_unfit h.0 h.1 h.2 (own.Nothing reason) h.3.0 h.3.1 h.3.2
+-- a text that was judged sane has this Script
+pub scripted_text : (text : Bytes) (found : OwnBody) (pieces : List Piece) (measures : Measures) (script : Bytes)
+    → ((expression : OwnExpression) → found ≡ body.Single expression → ⊥) → TellsOf text pieces (judgement.Sane measures script) → IsScripted found text (Some script)
+scripted_text text found pieces measures script other h =
+    scripted text script found other (record { tree = h.0; offsets = h.1; reads = h.2; is = h.3.2 })
 
 -- ---- the body in the code
 

@@ -1,13 +1,16 @@
 //! What a descriptor has at a branch and an index.
 
 ghost use Rattle.std.specs.Prelude.{◌≤◌, Option, ℕ, length, IsUtf8, Ok, IfOk};
+ghost use Rattle.def_address.specs.declared.Network.{Network};
 ghost use Rattle.def_tree.specs.InRange.{IsInRange};
 ghost use Rattle.def_text.specs.Refusal.{MOST_BYTES};
 ghost use Rattle.def_descriptor.specs.Gives.{pieces_in};
-ghost use Rattle.def_descriptor.specs.Answer.{Answers};
+ghost use Rattle.def_descriptor.specs.Answer.{Descriptor as TheDescriptor, Answers};
 ghost use Rattle.ms_tree.specs.Shape.{shape};
 ghost use Rattle.ms_descriptor.specs.Bodies.{body_at, descriptor_at, BodyWithin};
-ghost use Rattle.ms_outputs.specs.Given.{IsGiven};
+ghost use Rattle.ms_outputs.specs.Given.{IsSpelled, IsNotGiven};
+ghost use Rattle.ms_outputs.specs.Keys.{expressions_of_body};
+ghost use Rattle.ms_outputs.specs.Starts.{AreStarts};
 ghost use Rattle.ms_descriptor_replies.specs.Scaffolding.Steps.{HasTree, TellsOfTree, TellsOf, Finds};
 
 use crate::measures::Measures;
@@ -15,8 +18,10 @@ use crate::reasons::{no_key, unfit};
 use bumpalo::Bump;
 use def_address::Network;
 use def_text::TextFault;
+use ms_bytes::Blob;
 use ms_descriptor::{Body, Descriptor};
-use ms_outputs::{Given, GivenFault, give};
+use ms_emit::script_bytes;
+use ms_outputs::{Given, GivenFault, Spelled, Start, finish, spell, starts_of};
 use ms_sane::{Misfit, Rules, SaneTree};
 use ms_text::{TextTree, read_text};
 use std::alloc::{AllocError, Global};
@@ -36,8 +41,8 @@ pub enum Place {
 /// What the tree of a miniscript's text is.
 #[derive(Drop)]
 enum Judgement {
-    /// It is sane.
-    Sane(Measures),
+    /// It is sane, and has this Script.
+    Sane(Measures, Blob),
     /// It isn't, for a reason, with the end of its line.
     Unfit(Vec<u8>),
 }
@@ -55,7 +60,10 @@ fn judge_tree(
     ensures { IfOk result (TellsOfTree (pieces_in (body_at text.now body.now)) (shape read.now.tree) read.now.offsets.items) }
 {
     match SaneTree::new(alloc, read.tree, Rules::Policy) {
-        Ok(sane) => Ok(Judgement::Sane(Measures::of(&sane))),
+        Ok(sane) => {
+            let measures = Measures::of(&sane);
+            Ok(Judgement::Sane(measures, script_bytes(alloc, read.tree())?))
+        }
         Err(Misfit::Unfit(why)) => Ok(Judgement::Unfit(unfit(alloc, text, body, read, why)?)),
         Err(Misfit::Memory) => Err(AllocError),
     }
@@ -82,25 +90,62 @@ fn judge_text(alloc: Global, text: &[u8], body: &Body, own: &[u8]) -> Result<Jud
     }
 }
 
-/// Judges what a descriptor gives at a branch and an index, with an address of a network.
-fn judge_given(
+/// Judges what a descriptor has with its keys and its text at a branch and an index, with an address of a network.
+fn judge_spelled(
     alloc: Global,
     text: &str,
     descriptor: &Descriptor,
-    given: Given,
+    network: Option<Network>,
+    spelled: Spelled,
 ) -> Result<Place, AllocError>
     requires within { BodyWithin text.now descriptor.now.body }
     requires read { Answers text.now (Ok (descriptor_at text.now descriptor.now)) }
-    requires given { (network : Option Network) × (branch : ℕ) × (index : ℕ) × IsGiven (body_at text.now descriptor.now.body) descriptor.now.under network branch index given }
-    ensures { (network : Option Network) (branch index : ℕ) → IsGiven (body_at text.now descriptor.now.body) descriptor.now.under network branch index given
+    requires spelled { (branch : ℕ) × (index : ℕ) × IsSpelled (body_at text.now descriptor.now.body) branch index spelled }
+    ensures { (branch index : ℕ) → IsSpelled (body_at text.now descriptor.now.body) branch index spelled
         → IfOk result (Finds network (descriptor_at text.now descriptor.now) branch index) }
 {
     if let Body::Single(_) = &descriptor.body {
+        let given = finish(alloc, descriptor, network, spelled, None)?;
         return Ok(Place::Key(given));
     }
-    match judge_text(alloc, text.as_bytes(), &descriptor.body, &given.text)? {
-        Judgement::Sane(measures) => Ok(Place::Tree(given, measures)),
+    match judge_text(alloc, text.as_bytes(), &descriptor.body, &spelled.text)? {
+        Judgement::Sane(measures, script) => {
+            let given = finish(alloc, descriptor, network, spelled, Some(script))?;
+            Ok(Place::Tree(given, measures))
+        }
         Judgement::Unfit(reason) => Ok(Place::Nothing(reason)),
+    }
+}
+
+/// What there is where nothing is given: the reason, with the end of its line.
+fn not_given(alloc: Global, why: GivenFault) -> Result<Place, AllocError>
+    ensures { (network : Option Network) (d : TheDescriptor) (branch index : ℕ) → IsNotGiven d.body branch index why
+        → IfOk result (Finds network d branch index) }
+{
+    match why {
+        GivenFault::NoKey(at) => Ok(Place::Nothing(no_key(alloc, at)?)),
+        GivenFault::Memory => Err(AllocError),
+    }
+}
+
+/// What a descriptor, which is that of the text, has at a branch and an index, by where its keys start from at the branch; with an address of a network.
+pub fn place_from(
+    alloc: Global,
+    text: &str,
+    descriptor: &Descriptor,
+    starts: &[Start],
+    network: Option<Network>,
+    branch: usize,
+    index: u32,
+) -> Result<Place, AllocError>
+    requires within { BodyWithin text.now descriptor.now.body }
+    requires read { Answers text.now (Ok (descriptor_at text.now descriptor.now)) }
+    requires starts { AreStarts branch (expressions_of_body descriptor.now.body) starts.now }
+    ensures { IfOk result (Finds network (descriptor_at text.now descriptor.now) branch index) }
+{
+    match spell(alloc, text, descriptor, starts, index) {
+        Ok(spelled) => judge_spelled(alloc, text, descriptor, network, spelled),
+        Err(why) => not_given(alloc, why),
     }
 }
 
@@ -117,9 +162,6 @@ pub fn place_at(
     requires read { Answers text.now (Ok (descriptor_at text.now descriptor.now)) }
     ensures { IfOk result (Finds network (descriptor_at text.now descriptor.now) branch index) }
 {
-    match give(alloc, text, descriptor, network, branch, index) {
-        Ok(given) => judge_given(alloc, text, descriptor, given),
-        Err(GivenFault::NoKey(at)) => Ok(Place::Nothing(no_key(alloc, at)?)),
-        Err(GivenFault::Memory) => Err(AllocError),
-    }
+    let starts = starts_of(alloc, &descriptor.body, branch)?;
+    place_from(alloc, text, descriptor, &starts, network, branch, index)
 }

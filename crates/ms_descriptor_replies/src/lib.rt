@@ -3,7 +3,7 @@
 
 pub use asked::Derivation;
 pub use checking::check_reply;
-pub use judging::{Place, place_at};
+pub use judging::{Place, place_at, place_from};
 pub use listing::derive_reply;
 pub use measures::Measures;
 pub use reasons::push_refused_line;

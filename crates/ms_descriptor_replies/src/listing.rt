@@ -9,12 +9,14 @@ ghost use Rattle.def_descriptor_answer.specs.Places.{Reason};
 ghost use Rattle.def_descriptor_answer.specs.Lines.{reason_line, place_refused_line, no_branch_line, not_ranged_line, index_lines};
 ghost use Rattle.def_descriptor_answer.specs.Reply.{reply, RepliesToDerive, RepliesToText};
 ghost use Rattle.ms_descriptor.specs.Bodies.{descriptor_at, BodyWithin};
+ghost use Rattle.ms_outputs.specs.Keys.{expressions_of_body};
+ghost use Rattle.ms_outputs.specs.Starts.{AreStarts};
 ghost use Rattle.ms_descriptor_replies.specs.Asked.{derivation_at};
 ghost use Rattle.ms_descriptor_replies.specs.Found.{condition_of, IsOutput};
 ghost use Rattle.ms_descriptor_replies.specs.Scaffolding.Steps.{AddsIndex, RepliesByList};
 
 use crate::asked::Derivation;
-use crate::judging::{Place, place_at};
+use crate::judging::{Place, place_from};
 use crate::reasons::push_refused_line;
 use crate::reply::{Reply, refused};
 use def_descriptor_answer::Status;
@@ -23,7 +25,7 @@ use ms_descriptor_lines::{
     branch_count, is_ranged, push_digits_line, push_key_lines, push_no_branch_line,
     push_not_ranged_line, push_number_line, push_output_lines, push_text_line,
 };
-use ms_outputs::Given;
+use ms_outputs::{Given, Start, starts_of};
 use std::alloc::{AllocError, Global};
 
 /// Adds the lines of a condition: its Script, and the text that `msat` takes.
@@ -69,16 +71,19 @@ fn push_index(
     report: &mut Vec<u8>,
     asked: &Derivation<'_>,
     descriptor: &Descriptor,
+    starts: &[Start],
     index: u32,
 ) -> Result<Option<Vec<u8>>, AllocError>
     requires within { BodyWithin asked.now.text.now descriptor.now.body }
     requires read { Answers asked.now.text.now (Ok (descriptor_at asked.now.text.now descriptor.now)) }
+    requires starts { AreStarts asked.now.branch (expressions_of_body descriptor.now.body) starts.now }
     ensures { IfOk result (λ found. AddsIndex asked.now.network asked.now.branch (descriptor_at asked.now.text.now descriptor.now) index report.old.items report.new.items found) }
 {
-    match place_at(
+    match place_from(
         alloc,
         asked.text,
         descriptor,
+        starts,
         asked.network,
         asked.branch,
         index,
@@ -115,9 +120,10 @@ fn list(alloc: Global, asked: &Derivation<'_>, descriptor: &Descriptor) -> Resul
     requires last { asked.now.index + asked.now.count ≤ 2 ^ 31 }
     ensures { IfOk result (λ made. RepliesByList (descriptor_at asked.now.text.now descriptor.now) (derivation_at asked.now) (reply made.status made.report.items)) }
 {
+    let starts = starts_of(alloc, &descriptor.body, asked.branch)?;
     let mut report = Vec::new(alloc);
     for index in asked.index..asked.index + asked.count {
-        if let Some(reason) = push_index(alloc, &mut report, asked, descriptor, index)? {
+        if let Some(reason) = push_index(alloc, &mut report, asked, descriptor, &starts, index)? {
             return nothing_at(alloc, asked.branch, index, &reason);
         }
     }

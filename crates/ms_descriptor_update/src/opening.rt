@@ -12,11 +12,12 @@ ghost use Rattle.ms_descriptor_update.specs.Opening.{Opens};
 ghost use Rattle.ms_descriptor_update.specs.Scaffolding.Filling.{Fills};
 
 use crate::book::DescriptorBook;
-use crate::placing::put_place;
+use crate::placing::{Started, put_place, started_at};
 use def_descriptor_answer::Status;
 use ms_descriptor::{Descriptor, read_descriptor};
 use ms_descriptor_lines::{branch_count, is_ranged};
 use ms_descriptor_replies::{Reply, push_refused_line, refused};
+use ms_outputs::starts_of;
 use std::alloc::{AllocError, Global};
 use std::collections::BTreeMap;
 
@@ -77,8 +78,23 @@ fn fill<'a>(
         return Err(AllocError);
     };
     let mut places = BTreeMap::new(alloc);
+    let first = starts_of(alloc, &descriptor.body, 0)?;
+    let mut started = Started {
+        branch: 0,
+        starts: first,
+    };
     for place in 0..all {
-        if let Some(reason) = put_place(alloc, text, &descriptor, count, &mut places, place)? {
+        started = started_at(alloc, started, &descriptor.body, place / count as usize)?;
+        let starts = &started.starts;
+        if let Some(reason) = put_place(
+            alloc,
+            text,
+            &descriptor,
+            starts,
+            count,
+            &mut places,
+            place,
+        )? {
             let branch = place / count as usize;
             let index = place % count as usize;
             return Ok(Opened::Refused(nothing_at(alloc, branch, index, &reason)?));

@@ -14,7 +14,7 @@ use Rattle.serde_json.specs.declared.value.Value.{Value}
 use Rattle.def_files.specs.Json.{reading, elements_of}
 use Rattle.def_files.specs.Parts.{is_text}
 use Rattle.def_lines.specs.declared.LineFault.TheVariants as fault
-use Rattle.def_lines.specs.Question.{id_number, id_text, id_in, text_in, texts_in, told_words, MOST_LINE, line_in, line_of}
+use Rattle.def_lines.specs.Question.{id_number, id_text, id_in, text_in, texts_in, told_words, MOST_LINE, line_in, line_read, line_of}
 use Rattle.def_lines.specs.Answer.{answer_line, fault_line, REFUSED}
 use Rattle.def_lines.specs.Answers.{AnswersOf, AnswersLine}
 use Rattle.ms_lines.specs.Puts.{AnswersOrLacks}
@@ -65,18 +65,21 @@ pub too_long_line : (IsAnswer : AnswersOf) (line : List ℕ) → MOST_LINE < len
 unfolding line_of
 too_long_line IsAnswer line over = inl (rw (is_long MOST_LINE line over) refl)
 
--- one that is read as a value
-pub read_line : (IsAnswer : AnswersOf) (line answer : List ℕ) (d : Data) → length line ≤ MOST_LINE → IsUtf8 line → read line ≡ Some d
-    → AnswersOrLacks IsAnswer (line_in d) answer → AnswersLine IsAnswer line answer
+-- one that hasn't, by what it is read as
+pub short_line : (IsAnswer : AnswersOf) (line answer : List ℕ) → length line ≤ MOST_LINE
+    → AnswersOrLacks IsAnswer (line_read (reading line)) answer → AnswersLine IsAnswer line answer
 unfolding line_of
-read_line IsAnswer line answer d few utf8 e answers =
-    rw (is_short MOST_LINE line few, is_utf8-from_IsUtf8 line utf8, e) answers
+short_line IsAnswer line answer few answers = rw (is_short MOST_LINE line few) answers
+
+-- one that is read as a value
+pub read_line : (IsAnswer : AnswersOf) (line answer : List ℕ) (d : Data) → IsUtf8 line → read line ≡ Some d
+    → AnswersOrLacks IsAnswer (line_in d) answer → AnswersOrLacks IsAnswer (line_read (reading line)) answer
+read_line IsAnswer line answer d utf8 e answers = rw (is_utf8-from_IsUtf8 line utf8, e) answers
 
 reading_none : (bytes : List ℕ) → (IsUtf8 bytes → read bytes ≡ None) → reading bytes ≡ None
 reading_none bytes none = elim (cases_Bool (is_utf8 bytes)) [ inl e ↦ rw e (none (IsUtf8-from_is_utf8 bytes e)) | inr e ↦ rw e refl ]
 
 -- one that is none
-pub unread_line : (IsAnswer : AnswersOf) (line : List ℕ) → length line ≤ MOST_LINE → (IsUtf8 line → read line ≡ None)
-    → AnswersLine IsAnswer line (answer_line None REFUSED (fault_line fault.NotJson))
-unfolding line_of
-unread_line IsAnswer line few none = inl (rw (is_short MOST_LINE line few, reading_none line none) refl)
+pub unread_line : (IsAnswer : AnswersOf) (line : List ℕ) → (IsUtf8 line → read line ≡ None)
+    → AnswersOrLacks IsAnswer (line_read (reading line)) (answer_line None REFUSED (fault_line fault.NotJson))
+unread_line IsAnswer line none = inl (rw (reading_none line none) refl)

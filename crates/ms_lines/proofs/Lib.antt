@@ -5,3 +5,4 @@ pub mod AskedLemmas
 pub mod TurnLemmas
 pub mod StreamLemmas
 pub mod MemoryLemmas
+pub mod PlainLemmas

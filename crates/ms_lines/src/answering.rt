@@ -2,16 +2,20 @@
 ghost use Rattle.std.specs.Prelude.{◌≡◌, ℕ, List, [], map, IfOk, None};
 ghost use Rattle.std.specs.String.{string_bytes};
 ghost use Rattle.serde_json.specs.View.{view};
+ghost use Rattle.def_files.specs.Json.{reading};
 ghost use Rattle.def_lines.specs.Answers.{AnswersLine};
 ghost use Rattle.def_lines.specs.Answer.{answer_line as the_answer_line, fault_line};
-ghost use Rattle.def_lines.specs.Question.{line_in, text_in};
+ghost use Rattle.def_lines.specs.Question.{line_in, line_read, text_in};
 ghost use Rattle.ms_io.specs.Sides.{side};
 ghost use Rattle.ms_lines.specs.Puts.{Puts, AnswersOrLacks};
+ghost use Rattle.ms_lines.specs.Seen.{plain_seen};
 ghost use Rattle.ms_lines.specs.Through.{PassesOrFails};
 
 use crate::answer::put_answer;
+use crate::plain::{Plain, read_plain};
 use crate::question::{Asked, Question, copy_words, read_question};
 use def_lines::{LineFault, Part};
+use json::Scratch;
 use ms_io::{Sink, SinkFailed};
 use serde_json::Value;
 use std::alloc::{AllocError, Global};
@@ -49,11 +53,13 @@ pub trait Program {
         ensures { IfOk result (λ outcome. answers (map string_bytes words.items) source.now outcome.status outcome.report.items) };
 }
 
-/// Writes the answer to a line's bytes.
+/// Writes the answer to a line's bytes. A question is read from its tokens, in the room of the lines before; another line, and one for which memory was
+/// wanting there, as a value.
 pub fn answer_line<P: Program, K: Sink>(
     alloc: Global,
     program: &P,
     line: &[u8],
+    scratch: &mut Scratch,
     sink: &mut K,
     held: &mut Vec<u8>,
 ) -> Result<(), SinkFailed>
@@ -62,6 +68,40 @@ pub fn answer_line<P: Program, K: Sink>(
     if line.len() > MOST_LINE {
         return put_too_long(sink, held);
     }
+    match read_plain(alloc, line, scratch) {
+        Ok(question) => answer_plain(alloc, program, question, sink, held),
+        Err(_) => answer_other(alloc, program, line, sink, held),
+    }
+}
+
+/// Writes the answer to a question that was read from its tokens.
+fn answer_plain<P: Program, K: Sink>(
+    alloc: Global,
+    program: &P,
+    question: Plain<'_>,
+    sink: &mut K,
+    held: &mut Vec<u8>,
+) -> Result<(), SinkFailed>
+    ensures { Puts (AnswersOrLacks P.answers (plain_seen question.entry)) (side K.written K.faults sink.old sink.new) held.old.items held.new.items result }
+{
+    let Plain { id, words, source } = question;
+    match program.answer(alloc, words, source.as_bytes()) {
+        Ok(outcome) => put_answer(sink, held, id, outcome.status, &outcome.report),
+        Err(AllocError) => put_answer(sink, held, id, NO_MEMORY, b""),
+    }
+}
+
+/// Writes the answer to a line that is read as a value, for which `serde_json` clears room anew.
+#[inline(never)]
+fn answer_other<P: Program, K: Sink>(
+    alloc: Global,
+    program: &P,
+    line: &[u8],
+    sink: &mut K,
+    held: &mut Vec<u8>,
+) -> Result<(), SinkFailed>
+    ensures { Puts (AnswersOrLacks P.answers (line_read (reading line.now))) (side K.written K.faults sink.old sink.new) held.old.items held.new.items result }
+{
     match Value::from_slice(alloc, line) {
         Ok(value) => answer_value(alloc, program, &value, sink, held),
         Err(error) if error.is_memory() => put_lost(sink, held),

@@ -10,6 +10,7 @@ mod answer;
 mod answering;
 mod feeds;
 mod memory;
+mod plain;
 mod question;
 mod stream;
 mod through;

@@ -89,7 +89,8 @@ fn id_in(value: &Value) -> Option<Id<'_>>
     }
 }
 
-fn id_number<'a>(number: Option<u64>) -> Option<Id<'a>>
+/// The id that a number is.
+pub fn id_number<'a>(number: Option<u64>) -> Option<Id<'a>>
     ensures { ids_seen result ≡ the_id_number number }
 {
     match number {
@@ -98,7 +99,8 @@ fn id_number<'a>(number: Option<u64>) -> Option<Id<'a>>
     }
 }
 
-fn id_text(text: &str) -> Option<Id<'_>>
+/// The id that a text is.
+pub fn id_text(text: &str) -> Option<Id<'_>>
     ensures { ids_seen result ≡ the_id_text text.now }
 {
     if text.len() <= MOST_ID_LENGTH && are_plain(text.as_bytes()) {

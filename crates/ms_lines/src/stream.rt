@@ -5,6 +5,7 @@ ghost use Rattle.ms_lines.specs.Streams.{EndsLines};
 
 use crate::answering::Program;
 use crate::turns::{Start, finish, turn};
+use json::Scratch;
 use ms_io::{Sink, Source};
 use std::alloc::Global;
 
@@ -56,18 +57,27 @@ fn answer_pieces<P: Program, S: Source, K: Sink>(
     ensures write_faults_later { K.faults sink.old ≤ K.faults sink.new }
 {
     let mut start = Start::new(alloc);
+    let mut scratch = Scratch::new(alloc);
     let mut held = Vec::new(alloc);
     'turns: for _ in 0..u64::MAX {
         let Ok(count) = source.read(piece) else {
             return Ending::ReadFault;
         };
         if count == 0 {
-            return match finish(alloc, program, &mut start, sink, &mut held) {
+            return match finish(alloc, program, &mut start, &mut scratch, sink, &mut held) {
                 Ok(()) => Ending::Done,
                 Err(_) => Ending::WriteFault,
             };
         }
-        let Ok(()) = turn(alloc, program, &mut start, &piece[..count], sink, &mut held) else {
+        let Ok(()) = turn(
+            alloc,
+            program,
+            &mut start,
+            &piece[..count],
+            &mut scratch,
+            sink,
+            &mut held,
+        ) else {
             return Ending::WriteFault;
         };
     }

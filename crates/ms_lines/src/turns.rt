@@ -8,6 +8,7 @@ ghost use Rattle.ms_lines.specs.Scaffolding.Steps.{GoesOn, EndsLine, PutsTurn};
 use crate::answering::{MOST_LINE, Program, answer_line, put_lost, put_too_long};
 use crate::feeds::first_line;
 use crate::through::flush;
+use json::Scratch;
 use ms_io::{Sink, SinkFailed};
 use std::alloc::Global;
 use std::marker::Model;
@@ -110,6 +111,7 @@ pub fn turn<P: Program, K: Sink>(
     program: &P,
     start: &mut Start,
     piece: &[u8],
+    scratch: &mut Scratch,
     sink: &mut K,
     held: &mut Vec<u8>,
 ) -> Result<(), SinkFailed>
@@ -117,7 +119,7 @@ pub fn turn<P: Program, K: Sink>(
     ensures turns { Turns P.answers start.old start.new piece.now (side K.written K.faults sink.old sink.new) result }
     ensures held { OnOk result (held.new.items ≡ []) }
 {
-    put_turn(alloc, program, start, piece, sink, held)?;
+    put_turn(alloc, program, start, piece, scratch, sink, held)?;
     flush(sink, held)
 }
 
@@ -127,6 +129,7 @@ fn put_turn<P: Program, K: Sink>(
     program: &P,
     start: &mut Start,
     piece: &[u8],
+    scratch: &mut Scratch,
     sink: &mut K,
     held: &mut Vec<u8>,
 ) -> Result<(), SinkFailed>
@@ -134,7 +137,7 @@ fn put_turn<P: Program, K: Sink>(
 {
     let mut rest = piece;
     while let Some((line, after)) = first_line(rest) {
-        end_line(alloc, program, start, line, sink, held)?;
+        end_line(alloc, program, start, line, scratch, sink, held)?;
         rest = after;
     }
     start.push(rest);
@@ -147,6 +150,7 @@ fn end_line<P: Program, K: Sink>(
     program: &P,
     start: &mut Start,
     line: &[u8],
+    scratch: &mut Scratch,
     sink: &mut K,
     held: &mut Vec<u8>,
 ) -> Result<(), SinkFailed>
@@ -155,10 +159,10 @@ fn end_line<P: Program, K: Sink>(
 {
     if start.is_empty() {
         start.clear();
-        return answer_line(alloc, program, line, sink, held);
+        return answer_line(alloc, program, line, scratch, sink, held);
     }
     start.push(line);
-    let put = put_line(alloc, program, start, sink, held);
+    let put = put_line(alloc, program, start, scratch, sink, held);
     start.clear();
     put
 }
@@ -168,13 +172,14 @@ fn put_line<P: Program, K: Sink>(
     alloc: Global,
     program: &P,
     start: &Start,
+    scratch: &mut Scratch,
     sink: &mut K,
     held: &mut Vec<u8>,
 ) -> Result<(), SinkFailed>
     ensures { EndsLine P.answers start.now [] (side K.written K.faults sink.old sink.new) held.old.items held.new.items result }
 {
     match start.keeping {
-        Keeping::Whole => answer_line(alloc, program, &start.bytes, sink, held),
+        Keeping::Whole => answer_line(alloc, program, &start.bytes, scratch, sink, held),
         Keeping::TooLong => put_too_long(sink, held),
         Keeping::Lost => put_lost(sink, held),
     }
@@ -185,6 +190,7 @@ pub fn finish<P: Program, K: Sink>(
     alloc: Global,
     program: &P,
     start: &mut Start,
+    scratch: &mut Scratch,
     sink: &mut K,
     held: &mut Vec<u8>,
 ) -> Result<(), SinkFailed>
@@ -194,6 +200,6 @@ pub fn finish<P: Program, K: Sink>(
     if start.is_empty() {
         return Ok(());
     }
-    end_line(alloc, program, start, b"", sink, held)?;
+    end_line(alloc, program, start, b"", scratch, sink, held)?;
     flush(sink, held)
 }

@@ -5,3 +5,4 @@ pub mod Ordering
 pub mod Writing
 pub mod Addressed
 pub mod Together
+pub mod Starting

@@ -1,4 +1,4 @@
--- What is given together: the keys, the text, the program and the network.
+-- What is given together: the keys, the text, the Script, the program and the network.
 use Rattle.std.proofs.Common.{◌≡◌, ℕ, List, [], ◌∷◌, ap, ◌∙◌, refl, sym, subst, Option, Some, None, Result, Ok, IfErr}
 use Rattle.std.specs.Option.{unwrap_or}
 use Rattle.std.specs.Result.{IsErrAnd}
@@ -17,7 +17,7 @@ use Rattle.ms_key_laws.specs.Laws.{HasSomeTree}
 use Rattle.ms_outputs.specs.declared.given.GivenFault.{GivenFault}
 use Rattle.ms_outputs.specs.declared.given.GivenFault.TheVariants.{NoKey, Memory}
 use Rattle.ms_outputs.specs.Keys.{expressions_of_body, first_version, TellsNoKey}
-use Rattle.ms_outputs.specs.Given.{IsReadableOf, HasScript, HasOne, IsProgram, IsNotGiven}
+use Rattle.ms_outputs.specs.Given.{IsReadableOf, HasScript, HasKeyFor, IsProgram, IsProgramBy, IsScripted, IsNotGiven}
 use Rattle.ms_outputs.proofs.Finding.{expressions_are}
 use Rattle.ms_outputs.proofs.Versions.{network_is}
 
@@ -25,15 +25,24 @@ use Rattle.ms_outputs.proofs.Versions.{network_is}
 pub handed_on : {A : Type 0} (result : Result A GivenFault) (why : GivenFault) (P : GivenFault → Type 0) → IsErrAnd result (λ y. y ≡ why) → P why → IfErr result P
 handed_on result why P is h = let p = err_from_is_err_and result is in rw (p.1, p.2) h
 
--- ---- the program
+-- ---- the Script, and the program
 
-pub program_is : (whole text : Bytes) (own : Body) (keys : List Key) (script program : Bytes) → ((expression : Expression) → own ≡ body.Single expression → ⊥)
-    → HasScript text script → program ≡ program_of script → text ≡ text_of (body_at whole own) keys → IsProgram (body_at whole own) keys (Some script) program
-program_is whole text (body.Miniscript pieces) keys script program other s h e =
+pub scripted : (text script : Bytes) (own : Body) → ((expression : Expression) → own ≡ body.Single expression → ⊥) → HasScript text script
+    → IsScripted own text (Some script)
+scripted text script (body.Miniscript pieces) other h = h
+scripted text script (body.Sorted at pieces) other h = h
+scripted text script (body.Single expression) other h = absurd (other expression refl)
+
+pub program_is : (whole text : Bytes) (own : Body) (keys : List Key) (script : Option Bytes) (program : Bytes) → IsScripted own text script
+    → IsProgramBy script keys program → text ≡ text_of (body_at whole own) keys → IsProgram (body_at whole own) keys script program
+program_is whole text (body.Miniscript pieces) keys None program s h e = absurd s
+program_is whole text (body.Miniscript pieces) keys (Some script) program s h e =
     (s.tree, _, (s.offsets, subst (λ (z : Bytes). TextReads z s.tree s.offsets) e s.reads, refl), ap Some s.is, h ∙ ap program_of s.is)
-program_is whole text (body.Sorted at pieces) keys script program other s h e =
+program_is whole text (body.Sorted at pieces) keys None program s h e = absurd s
+program_is whole text (body.Sorted at pieces) keys (Some script) program s h e =
     (s.tree, _, (s.offsets, subst (λ (z : Bytes). TextReads z s.tree s.offsets) e s.reads, refl), ap Some s.is, h ∙ ap program_of s.is)
-program_is whole text (body.Single expression) keys script program other s h e = absurd (other expression refl)
+program_is whole text (body.Single expression) keys script program s h e =
+    let one = subst (λ (z : Option Bytes). IsProgramBy z keys program) s h in (one.0, one.1, s, one.2)
 
 -- ---- the keys
 
@@ -41,10 +50,14 @@ one_of : (at : ℕ) (found : Option Key) (keys : List Key) → with_key at found
 one_of at None keys h = absurd (cc)
 one_of at (Some key) keys h = (key, cc)
 
-pub one_is : (branch i : ℕ) (own : Body) (keys : List Key) → keys_at branch i (expressions_of_body own) ≡ Ok keys → HasOne own keys
-one_is branch i (body.Miniscript pieces) keys h = tt
-one_is branch i (body.Sorted at pieces) keys h = tt
-one_is branch i (body.Single expression) keys h = one_of expression.at _ keys h
+pub has_key : (whole text : Bytes) (own : Body) (branch i : ℕ) (keys : List Key) (script : Option Bytes)
+    → keys_at branch i (expressions_of (body_at whole own)) ≡ Ok keys → IsScripted own text script → HasKeyFor script keys
+has_key whole text (body.Miniscript pieces) branch i keys None h s = absurd s
+has_key whole text (body.Miniscript pieces) branch i keys (Some script) h s = tt
+has_key whole text (body.Sorted at pieces) branch i keys None h s = absurd s
+has_key whole text (body.Sorted at pieces) branch i keys (Some script) h s = tt
+has_key whole text (body.Single expression) branch i keys script h s =
+    subst (λ (z : Option Bytes). HasKeyFor z keys) (sym s) (one_of expression.at _ keys h)
 
 module _ (text : Bytes) (own : Body) (branch i : ℕ) where
   pub keys_are : (keys : List Key) → keys_at branch i (expressions_of_body own) ≡ Ok keys → keys_at branch i (expressions_of (body_at text own)) ≡ Ok keys

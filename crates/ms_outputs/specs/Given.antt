@@ -4,6 +4,7 @@ use Rattle.def_script.specs.Bytes.{Bytes}
 use Rattle.def_tree.specs.Tree.{Key, Tree}
 use Rattle.def_text.specs.Refusal.{TextReads}
 use Rattle.def_emit.specs.Emit.{script_of}
+use Rattle.def_machine.specs.Program.{program_of}
 use Rattle.def_address.specs.declared.Network.{Network}
 use Rattle.def_address.specs.Address.{address_of}
 use Rattle.def_descriptor.specs.Parts.{Body, single}
@@ -11,6 +12,7 @@ use Rattle.def_descriptor.specs.Gives.{expressions_of, keys_at, text_of, HasTree
 use Rattle.ms_descriptor.specs.declared.parts.Body.{Body as OwnBody}
 use Rattle.ms_descriptor.specs.declared.parts.Body.TheVariants as own
 use Rattle.ms_outputs.specs.declared.given.Given.{Given}
+use Rattle.ms_outputs.specs.declared.given.Spelled.{Spelled}
 use Rattle.ms_outputs.specs.declared.given.GivenFault.{GivenFault}
 use Rattle.ms_outputs.specs.declared.given.GivenFault.TheVariants.{NoKey, Memory}
 
@@ -30,10 +32,21 @@ abbrev pub IsReadableOf : OwnBody → (text : Bytes) → Type 0
 IsReadableOf (own.Single expression) text = ⊤
 IsReadableOf body text = IsReadable text
 
--- a single key is one key
-abbrev pub HasOne : OwnBody → List Key → Type 0
-HasOne (own.Single expression) keys = (key : Key) × (keys ≡ key ∷ [])
-HasOne body keys = ⊤
+-- the Script of the text of a body: there is none of a single key
+abbrev pub IsScripted : OwnBody → (text : Bytes) → (script : Option Bytes) → Type 0
+IsScripted (own.Single expression) text script = script ≡ None
+IsScripted body text None = ⊥
+IsScripted body text (Some script) = HasScript text script
+
+-- where there is no Script there is one key
+abbrev pub HasKeyFor : (script : Option Bytes) → List Key → Type 0
+HasKeyFor None keys = (key : Key) × (keys ≡ key ∷ [])
+HasKeyFor (Some script) keys = ⊤
+
+-- the program of a Script, or without one of the one key
+abbrev pub IsProgramBy : (script : Option Bytes) → List Key → (program : Bytes) → Type 0
+IsProgramBy None keys program = (key : Key) × (keys ≡ key ∷ []) × (program ≡ key_program key)
+IsProgramBy (Some script) keys program = program ≡ program_of script
 
 -- an output has an address on a network
 abbrev pub HasAddress : Network → (output : Bytes) → Type 0
@@ -44,6 +57,11 @@ abbrev pub IsProgram : Body → List Key → (script : Option Bytes) → (progra
 IsProgram (single expression) keys script program = (key : Key) × (keys ≡ key ∷ []) × (script ≡ None) × (program ≡ key_program key)
 IsProgram body keys script program =
     (tree : Tree) × (offsets : List ℕ) × HasTree body keys tree offsets × (script ≡ Some (script_of tree)) × (program ≡ tree_program tree)
+
+-- its keys, and the text of its miniscript with them
+pub record IsSpelled (body : Body) (branch index : ℕ) (spelled : Spelled) : Type 0 where
+  pub keys : keys_at branch index (expressions_of body) ≡ Ok spelled.keys.items
+  pub text : spelled.text.items ≡ text_of body spelled.keys.items
 
 -- its keys, the text of its miniscript, its Script and program, its output and the address of that
 pub record IsGiven (body : Body) (under : Bool) (network : Option Network) (branch index : ℕ) (given : Given) : Type 0 where

@@ -1,5 +1,5 @@
 -- Which key expressions the code's pieces stand for, and which keys are added.
-use Rattle.std.specs.Prelude.{◌≡◌, ⊤, ℕ, List, [], ◌∷◌, ◌++◌, Option, None, Result, Ok, Err, MatchResult}
+use Rattle.std.specs.Prelude.{◌≡◌, ⊤, ℕ, List, [], ◌∷◌, Option, None, Result, Ok, Err, MatchResult}
 use Rattle.std.specs.Option.{option_or}
 use Rattle.std.specs.declared.vec.Vec.{Vec}
 use Rattle.std.specs.declared.alloc.Global.{Global}
@@ -35,9 +35,6 @@ abbrev pub TellsNoKey : Result (List Key) ℕ → GivenFault → Type 0
 TellsNoKey r (NoKey at) = r ≡ Err at
 TellsNoKey r Memory = ⊤
 
--- the keys stand behind those before
-abbrev pub AddsKeys : {A : Type 0} → Result (List Key) ℕ → (before after : List Key) → Result A GivenFault → Type 0
-AddsKeys r before after result = MatchResult result (λ x. (keys : List Key) × (r ≡ Ok keys) × (after ≡ before ++ keys)) (TellsNoKey r)
-
+-- these are the keys, or why there are none is told
 abbrev pub HasKeys : Result (List Key) ℕ → Result (Vec Key Global) GivenFault → Type 0
 HasKeys r result = MatchResult result (λ keys. r ≡ Ok keys.items) (TellsNoKey r)

@@ -5,6 +5,8 @@ ghost use Rattle.std.specs.Prelude.{◌≡◌, ◌≢◌, ◌⊎◌, ◌↔◌, 
 ghost use Rattle.def_answer.specs.Status.{code_of};
 ghost use Rattle.def_curve.specs.Encoding.{point_bytes};
 ghost use Rattle.def_curve.specs.Judgement.{judge};
+ghost use Rattle.def_descriptor_answer.specs.Answer.{Answer as DescriptorAnswer};
+ghost use Rattle.def_descriptor_answer.specs.Status.{code_of as descriptor_code_of};
 ghost use Rattle.def_psbt_answer.specs.Answer.{Answer as PsbtAnswer};
 ghost use Rattle.def_psbt_answer.specs.Status.{code_of as psbt_code_of};
 ghost use Rattle.ms_arrays.specs.ArrayAssets.{locks_of, assets_of_arrays};
@@ -77,6 +79,26 @@ pub extern "C" fn msat_psbt_answer(
     ensures kept_needed { (result ≡ 11) ⊎ (result ≡ 7) → needed.new ≡ needed.old }
 {
     ms_psbt_calls::psbt_answer(alloc, count, words, source, report, needed)
+}
+
+/// Answers the words of a command line, as the program `msat-descriptor` does where its standard input holds `source`.
+#[unsafe(no_mangle)]
+pub extern "C" fn msat_descriptor_answer(
+    alloc: Global,
+    count: usize,
+    words: &[u8],
+    source: &[u8],
+    report: &mut [u8],
+    needed: &mut usize,
+) -> u32
+    ensures status { HoldsOfAnswer DescriptorAnswer count words.now source.now result (λ s r. result ≡ descriptor_code_of s) }
+    ensures written { HoldsOfAnswer DescriptorAnswer count words.now source.now result (λ s r. report.new ≡ written_over report.old r) }
+    ensures needed { HoldsOfAnswer DescriptorAnswer count words.now source.now result (λ s r. needed.new ≡ length r) }
+    ensures unreadable { AreNoWords count words.now → (result ≡ 11) ⊎ (result ≡ 7) }
+    ensures kept { (result ≡ 11) ⊎ (result ≡ 7) → report.new ≡ report.old }
+    ensures kept_needed { (result ≡ 11) ⊎ (result ≡ 7) → needed.new ≡ needed.old }
+{
+    ms_descriptor_calls::descriptor_answer(alloc, count, words, source, report, needed)
 }
 
 /// The Script of a text that is valid by the limits of policy, or by those of consensus alone.

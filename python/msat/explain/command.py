@@ -10,7 +10,7 @@ from typing import NoReturn, Optional, Sequence, Union
 
 import msat
 
-from . import refusals, report
+from . import refusals, report, wallet
 from .explanation import Explanation, explain
 from .given import Unfit, read
 from .refusals import Refusal
@@ -47,7 +47,7 @@ def parser() -> argparse.ArgumentParser:
         prog="msat-explain", description=ABOUT, epilog=STATUSES, allow_abbrev=False, add_help=False,
         formatter_class=argparse.RawDescriptionHelpFormatter,
     )
-    of_text = "the condition: a miniscript, wsh(..), or a Script in digits; - is standard input"
+    of_text = "the condition: a miniscript, wsh(..), a descriptor with extended keys, or a Script in digits; - is standard input"
     found.add_argument("text", metavar="TEXT", nargs="?", help=of_text)
     found.add_argument("-f", "--file", metavar="FILE", help="a file that holds the condition")
     of_key = "the digits of a name in the condition; as HEX alone, a key of a Script"
@@ -55,6 +55,9 @@ def parser() -> argparse.ArgumentParser:
     found.add_argument("--keys", metavar="FILE", help='a file of JSON with the digits of names: {"alice":"02.."}')
     of_assets = "an asset file: what it makes possible, and what is missing on each way; a run file: how the run of its witness goes too"
     found.add_argument("--assets", metavar="FILE", help=of_assets)
+    of_branch = "of a descriptor with extended keys: the branch whose condition is shown, from 0; without it 0"
+    found.add_argument("--branch", metavar="B", help=of_branch)
+    found.add_argument("--index", metavar="I", help="of such a descriptor: the index; without it 0")
     found.add_argument("--html", metavar="PAGE", help="writes one page, without any outside resource, to this file")
     found.add_argument("--json", action="store_true", help="prints JSON (schema/explain.json) in place of text")
     found.add_argument("--consensus", action="store_true", help="by the limits of consensus, not by those of policy")
@@ -114,10 +117,15 @@ def _keys(options: argparse.Namespace) -> tuple[dict[str, str], tuple[str, ...]]
     return digits, tuple(keys)
 
 
-def answer(raw: str, digits: dict[str, str], keys: tuple[str, ...] = (), *, consensus: bool = False, assets: Optional[bytes] = None) -> Found:
+def answer(
+    raw: str, digits: dict[str, str], keys: tuple[str, ...] = (), *, consensus: bool = False, assets: Optional[bytes] = None,
+    branch: str = "0", index: str = "0",
+) -> Found:  # fmt: skip
     """The explanation of what was given, or its refusal."""
     given = None
     try:
+        if wallet.is_descriptor(raw, digits):
+            return wallet.explained(raw, digits, branch=branch, index=index, consensus=consensus, assets=assets)
         given = read(raw, digits, keys)
         return explain(given, consensus=consensus, assets=assets)
     except Unfit as unfit:
@@ -131,6 +139,19 @@ def answer(raw: str, digits: dict[str, str], keys: tuple[str, ...] = (), *, cons
         return refusals.of_error(error, FILE, "The asset file is refused.", "")
     except msat.NoReading as error:
         return refusals.of_error(error, NO_READING, "The Script isn't read back as a condition.", raw)
+
+
+_NUMBER = re.compile(r"0|[1-9][0-9]{0,9}")
+
+
+def _place(options: argparse.Namespace, is_descriptor: bool) -> tuple[str, str]:
+    """The branch and the index that are asked for."""
+    for name, value, most in (("--branch", options.branch, 15), ("--index", options.index, 2**31 - 1)):
+        if value is not None and not is_descriptor:
+            raise Stop(USAGE, f"{name} is of descriptors with extended keys alone")
+        if value is not None and (not _NUMBER.fullmatch(value) or int(value) > most):
+            raise Stop(USAGE, f"{name} {value} is no number up to {most:,} without a leading zero")
+    return options.branch or "0", options.index or "0"
 
 
 def _status(found: Found) -> int:
@@ -180,7 +201,9 @@ def _run(words: Optional[Sequence[str]]) -> int:
         return DONE if _write(f"msat-explain {msat.__version__}\n" if options.version else parser().format_help()) else WRITING
     digits, keys = _keys(options)
     assets = None if options.assets is None else _read_file(options.assets)
-    found = answer(_text(options), digits, keys, consensus=options.consensus, assets=assets)
+    text = _text(options)
+    branch, index = _place(options, wallet.is_descriptor(text, digits))
+    found = answer(text, digits, keys, consensus=options.consensus, assets=assets, branch=branch, index=index)
     if options.html is not None:
         _write_page(found, options.html)
     return _status(found) if _write(_printed(found, options)) else WRITING

@@ -11,6 +11,7 @@ from .locks import Locks, said, said_fields
 from .refusals import Refusal
 from .report import marked
 from .tree import Node
+from .wallets import Wallet
 
 Document = dict[str, Any]
 
@@ -52,9 +53,21 @@ def _explanation(found: Explanation) -> Document:
         },
         "spending": _spending(found) if found.spending else None,
     }
+    if found.wallet:
+        document_["descriptor"] = _wallet(found.wallet)
     if found.held:
         document_["held"] = _held(found.held, found)
     return document_
+
+
+def _wallet(it: Wallet) -> Document:
+    return {
+        "text": it.text, "kind": it.kind, "ranged": it.is_ranged, "branch": it.branch, "index": it.index, "network": it.network,
+        "output": it.output, "origins": [{"key": key, "path": path} for key, path in it.keys],
+        "branches": [
+            [{"index": spot.index, "address": spot.address, "refusal": spot.refusal} for spot in branch.spots] for branch in it.branches
+        ],
+    }  # fmt: skip
 
 
 def _node(node: Node, found: Explanation) -> Document:

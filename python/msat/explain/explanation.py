@@ -17,6 +17,7 @@ from .given import Given, with_known_preimages
 from .lines import Line, lines
 from .locks import Locks, levels
 from .tree import Node, outline
+from .wallets import Wallet
 from .ways import Way, Ways, fewest
 
 # A signature of ECDSA in DER with the byte of its hash type has at most so many bytes as nodes relay it, with a low S.
@@ -107,7 +108,7 @@ class Held:
 
 @dataclass(frozen=True)
 class Explanation:
-    """All that is said of a sane condition."""
+    """All that is said of a sane condition, and of the descriptor that it is of, where it was given one with extended keys."""
 
     given: Given
     consensus: bool
@@ -120,6 +121,7 @@ class Explanation:
     hashes: tuple[tuple[str, str], ...]
     spending: Optional[Spending]
     held: Optional[Held]
+    wallet: Optional[Wallet] = None
 
     def said_atom(self, atom: Atom) -> str:
         """What is asked for, in a word."""

@@ -13,6 +13,7 @@ from .refusals import Refusal
 from .report import marked, printable
 from .style import STYLE
 from .tree import Node
+from .wallets import Wallet
 
 _POLICY = "default-src 'none'; style-src 'unsafe-inline'; base-uri 'none'; form-action 'none'"
 
@@ -110,6 +111,7 @@ def _explanation(found: Explanation) -> tuple[str, str]:
 def _sections(found: Explanation) -> Iterable[tuple[str, str, str]]:
     spending = found.spending
     yield "keys", "Keys and hashes", _keys(found)
+    yield "wallet", "Addresses", _wallet(found.wallet) if found.wallet else ""
     yield "ways", "Ways to spend", _ways(found) if spending else "<p>Not told: only the limits of consensus take this condition.</p>"
     yield "held", "With the asset file", _held(found, found.held) if found.held else ""
     yield "time", "As time passes", _time(found) if spending else ""
@@ -117,7 +119,7 @@ def _sections(found: Explanation) -> Iterable[tuple[str, str, str]]:
     yield "tree", "Tree", _tree(found)
     yield "script", "Script", _script(found)
     yield "limits", "Limits", _limits(found)
-    yield "address", "Address", _address(found)
+    yield "address", f"Address of branch {found.wallet.branch}, index {found.wallet.index}" if found.wallet else "Address", _address(found)
 
 
 def _keys(found: Explanation) -> str:
@@ -126,6 +128,12 @@ def _keys(found: Explanation) -> str:
         return ""
     cells = [(cell(found.given.name_of(value)), cell(kind), _code(words.digits_of(value, found))) for kind, value in rows]
     return table("what is called by a name here", ("Name", "What", "Digits"), cells)
+
+
+def _wallet(wallet: Wallet) -> str:
+    rows = [(f"branch {it.number}, index {spot.index}", _code(spot.address or spot.refusal or "")) for it in wallet.branches for spot in it.spots]
+    caption = f"the first of each branch, of the {wallet.network} network: compare them with the ones that your wallet shows"
+    return table(caption, ("Place", "Address"), rows) + f"<details><summary>The descriptor with its checksum</summary><pre>{safe(wallet.text)}</pre></details>"
 
 
 def _ways(found: Explanation) -> str:
@@ -218,7 +226,7 @@ def _address(found: Explanation) -> str:
     if not found.addresses:
         return "<p>There is none, since a key or a hash value is a stand-in: nobody could spend what is paid to it.</p>"
     rows = [(f"{name} network", _code(it)) for name, it in found.addresses.items()]
-    return table("compare it with the one that your wallet shows", ("Where", "Address"), [*rows, ("program", _code(found.checked.program.hex()))])
+    return table("compare it with the one that your wallet shows", ("Where", "Address"), [*rows, ("program", _code(found.checked.program.hex())), *((name, _code(it)) for name, it in words.output_of(found))])
 
 
 def _held(found: Explanation, held: Held) -> str:

@@ -223,6 +223,15 @@ def required(rule: str) -> str:
     raise KeyError(rule)
 
 
+def sentence_of(name: str, number: int) -> str:
+    """What a reason against a text is, but for the rules.
+
+    >>> sentence_of("RepeatedKey", 0)
+    'A key here stands elsewhere too.'
+    """
+    return _SENTENCES[name].format(number=f"{number:,}")
+
+
 def of_text(refused: msat.TextRefused, given: Given) -> Refusal:
     """The refusal of a text, where its wrong place came from."""
     place = None if refused.place is None else given.place(refused.place)
@@ -233,7 +242,7 @@ def of_text(refused: msat.TextRefused, given: Given) -> Refusal:
         sentence = _broken(refused, next(it for it in seen.root.walk() if it.place == refused.place))
         said = said.rstrip(".") + (f". It fits with {_fitting(seen.fit, given)}" if seen.fit else "")
     else:
-        sentence = _SENTENCES[refused.name].format(number=f"{refused.number or 0:,}")
+        sentence = sentence_of(refused.name, refused.number or 0)
     if refused.name == "Syntax":
         word = re.match(r"\w+", given.text.encode(errors="replace")[refused.place :].decode(errors="replace"))
         said = _FOREIGN.get(word[0], said) if word else said

@@ -11,6 +11,7 @@ from .locks import Locks, said, said_fields
 from .refusals import Refusal
 from .steps import Step
 from .tree import Node
+from .wallets import Wallet
 
 _STYLES = {"title": "1", "name": "36", "dim": "2", "good": "32", "bad": "31", "note": "33"}
 WIDTH = 100
@@ -128,6 +129,8 @@ def explained(shown: Explanation, color: bool) -> str:
     """The whole explanation."""
     paper = Paper(color)
     _head(paper, shown)
+    if shown.wallet:
+        _addresses(paper, shown.wallet)
     paper.title("Tree", paper.styled("each node with its type; a wrapper's stands before that of what it wraps", "dim"))
     paper.table(tree_rows(shown.root, shown), ("name", "", "dim"))
     _script(paper, shown)
@@ -154,12 +157,19 @@ def _head(paper: Paper, shown: Explanation) -> None:
             paper.table([(shown.given.name_of(it), function, words.digits_of(it, shown)) for function, it in values], ("name",))
 
 
+def _addresses(paper: Paper, wallet: Wallet) -> None:
+    paper.title("Addresses", f"the first of each branch, of the {wallet.network} network: compare them with your wallet's")
+    rows = [(str(spot.index), spot.address or spot.refusal or "") for branch in wallet.branches for spot in branch.spots]
+    bands = [f"branch {branch.number}" for branch in wallet.branches for _ in branch.spots]
+    paper.table(rows, ("dim",), (0,), bands=bands)
+
+
 def _script(paper: Paper, shown: Explanation) -> None:
     paper.title("Script", paper.styled("the byte, the opcode, and the node that wrote it", "dim"))
     paper.table([(str(it.at), words.line_of(it, shown), words.writer_of(it, shown)) for it in shown.lines], ("dim", "", "name"), (0,))
     paper.add()
     if shown.addresses:
-        paper.table([("script", shown.checked.script.hex()), ("program", shown.checked.program.hex()), *shown.addresses.items()], ("dim",))
+        paper.table([("script", shown.checked.script.hex()), ("program", shown.checked.program.hex()), *words.output_of(shown), *shown.addresses.items()], ("dim",))
     else:
         paper.add("  " + paper.styled("no script, program and address, since a key or a hash value is a stand-in", "note"))
 

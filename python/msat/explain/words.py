@@ -167,6 +167,11 @@ def digits_of(value: str, shown: Explanation) -> str:
     return digits if name in ("", shown.given.name_of(value)) else f"{digits}: {name}"
 
 
+def output_of(shown: Explanation) -> list[tuple[str, str]]:
+    """The output's script, where the program isn't it."""
+    return [("output", shown.wallet.output)] if shown.wallet and shown.wallet.output else []
+
+
 def more_of(shown: Explanation) -> str:
     """How many ways there are besides those that are shown."""
     spending = shown.spent

@@ -29,6 +29,12 @@ pub const MSAT_HIGH: u32 = 2;
 pub const MSAT_PSBT_REFUSED: u32 = 3;
 pub const MSAT_PSBT_OPEN: u32 = 4;
 
+/// The codes of `msat_descriptor_answer` that have names of their own.
+pub const MSAT_DESCRIPTOR_REFUSED: u32 = 2;
+pub const MSAT_DESCRIPTOR_PSBT_REFUSED: u32 = 3;
+pub const MSAT_DESCRIPTOR_UNFIT: u32 = 4;
+pub const MSAT_DESCRIPTOR_NO_INPUT: u32 = 4;
+
 /// The version that these declarations are of, as `msat_version` tells that of the library.
 pub const MSAT_VERSION_NUMBER: u32 = 1_000_000;
 
@@ -96,6 +102,17 @@ unsafe extern "C" {
     ) -> u32;
 
     pub fn msat_psbt_answer(
+        count: usize,
+        words: *const c_char,
+        words_len: usize,
+        source: *const c_void,
+        source_len: usize,
+        report: *mut c_char,
+        report_len: usize,
+        needed: *mut usize,
+    ) -> u32;
+
+    pub fn msat_descriptor_answer(
         count: usize,
         words: *const c_char,
         words_len: usize,

@@ -26,9 +26,16 @@ pub fn psbt_answer(words: &[&str], source: &[u8]) -> Result<(u32, Vec<u8>), Erro
     answered(msat_sys::msat_psbt_answer, words, source)
 }
 
+/// The exit status and the report of `msat-descriptor` for these words, `check D`,
+/// `derive [--testnet or --regtest] [--branch B] D INDEX [COUNT]` or `update D COUNT`, where its standard input holds `source`, for `update` a PSBT, as
+/// bytes or as base64. What `update` reports is that PSBT, in the same form, with what D says of its inputs and outputs.
+pub fn descriptor_answer(words: &[&str], source: &[u8]) -> Result<(u32, Vec<u8>), Error> {
+    answered(msat_sys::msat_descriptor_answer, words, source)
+}
+
 type Answer = unsafe extern "C" fn(usize, *const c_char, usize, *const c_void, usize, *mut c_char, usize, *mut usize) -> u32;
 
-/// The answer of one of the two calls that take words.
+/// The answer of one of the calls that take words.
 fn answered(call: Answer, words: &[&str], source: &[u8]) -> Result<(u32, Vec<u8>), Error> {
     if words.iter().any(|word| word.contains('\0')) {
         return Err(Error::Unreadable);

@@ -14,6 +14,8 @@ pub enum Error {
     File(FileRefusal),
     /// The PSBT is refused.
     Psbt(PsbtRefusal),
+    /// The descriptor is refused, or what it has at a branch and an index.
+    Descriptor(DescriptorRefusal),
     /// There is no canonical satisfaction with what is held, or no plan.
     NoSatisfaction,
     /// The interpreter refuses a script.
@@ -138,6 +140,18 @@ pub struct PsbtRefusal {
     pub line: Option<u64>,
 }
 
+/// Why a descriptor is refused. docs/FORMATS.md says when each reason comes.
+#[derive(Clone, Debug, PartialEq, Eq, Hash)]
+#[non_exhaustive]
+pub struct DescriptorRefusal {
+    /// The name of the reason, and what stands behind it in the report.
+    pub reason: String,
+    /// The byte of the descriptor, from 0, where the reason has a place.
+    pub place: Option<u32>,
+    /// The branch and the index at which there is no sane condition, where the descriptor itself is read.
+    pub at: Option<(u32, u32)>,
+}
+
 /// Why a PSBT is refused. docs/FORMATS.md says when each comes.
 #[derive(Clone, Copy, Debug, PartialEq, Eq, Hash)]
 #[non_exhaustive]
@@ -231,6 +245,10 @@ impl fmt::Display for Error {
             Error::Psbt(refusal) => match refusal.line {
                 Some(line) => write!(f, "refused line {line} {refusal}"),
                 None => write!(f, "refused psbt {refusal}"),
+            },
+            Error::Descriptor(refusal) => match refusal.at {
+                Some((branch, index)) => write!(f, "refused branch {branch} index {index} {}", refusal.reason),
+                None => write!(f, "refused descriptor {}", refusal.reason),
             },
             Error::NoSatisfaction => f.write_str("no satisfaction"),
             Error::Script(refusal) => write!(f, "refused script {refusal}"),

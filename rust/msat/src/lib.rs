@@ -17,16 +17,17 @@
 //! ```
 
 mod calls;
+pub mod descriptor;
 mod error;
 mod names;
 pub mod psbt;
 
 pub use calls::{
-    answer, audit, check, decode, least_weight, plan, point, policy, psbt_answer, run, satisfy, satisfy_malleable, script, signature,
-    version, witness, witness_malleable,
+    answer, audit, check, decode, descriptor_answer, least_weight, plan, point, policy, psbt_answer, run, satisfy, satisfy_malleable, script,
+    signature, version, witness, witness_malleable,
 };
 pub use error::{
-    Error, FileFault, FileRefusal, Member, PsbtFault, PsbtRefusal, Rule, RunFault, RunRefusal, TextFault, TextRefusal, Unfit,
+    DescriptorRefusal, Error, FileFault, FileRefusal, Member, PsbtFault, PsbtRefusal, Rule, RunFault, RunRefusal, TextFault, TextRefusal, Unfit,
 };
 
 /// By which limits a text is held.

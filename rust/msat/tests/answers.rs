@@ -1,6 +1,7 @@
 // SPDX-License-Identifier: MIT
 //! The calls against the reports of the examples, whose folder `MSAT_EXAMPLES` names, and against one another.
 
+use msat::descriptor::Network;
 use msat::{
     Assets, Error, Estimate, FileFault, Judgement, Known, Member, Rule, Rules, Run, RunFault, Signature, TextFault, TextRefusal, Unfit,
 };
@@ -141,6 +142,34 @@ fn psbts_have_their_answers() {
         let report = fs::read(folder.join("report")).expect("a report");
         let status: u32 = fs::read_to_string(folder.join("status")).map_or(0, |it| it.trim().parse().expect("a status"));
         assert_eq!(msat::psbt_answer(&words, &source), Ok((status, report)), "{folder:?}");
+    }
+}
+
+/// Each row of examples/descriptors, in a folder of its own, as .ci/hosts/descriptor_rows.py writes them.
+#[test]
+fn descriptors_have_their_answers() {
+    let Some(top) = env::var_os("MSAT_DESCRIPTORS") else { return };
+    for entry in fs::read_dir(top).expect("the folder of the descriptors") {
+        let folder = entry.expect("a folder").path();
+        let words = fs::read_to_string(folder.join("words")).expect("words");
+        let words: Vec<&str> = words.split_whitespace().collect();
+        let source = fs::read(folder.join("source")).expect("a source");
+        let report = fs::read(folder.join("report")).expect("a report");
+        let status: u32 = fs::read_to_string(folder.join("status")).expect("a status").trim().parse().expect("a status");
+        assert_eq!(msat::descriptor_answer(&words, &source), Ok((status, report.clone())), "{folder:?}");
+        let report = String::from_utf8_lossy(&report);
+        if let (["check", descriptor], 0 | 2 | 4) = (&words[..], status) {
+            match msat::descriptor::check(descriptor) {
+                Ok(told) => assert!(report.starts_with(&format!("descriptor {}\nkind {}\n", told.text, told.kind)), "{folder:?}"),
+                Err(error) => assert_eq!(format!("{error}\n"), report, "{folder:?}"),
+            }
+        }
+        if let (["derive", descriptor, index], 0 | 2) = (&words[..], status) {
+            match msat::descriptor::derive(descriptor, Network::Own, 0, index.parse().expect("an index")) {
+                Ok(told) => assert!(report.starts_with(&format!("index {index}\naddress {}\n", told.address)), "{folder:?}"),
+                Err(error) => assert_eq!(format!("{error}\n"), report, "{folder:?}"),
+            }
+        }
     }
 }
 

@@ -3,6 +3,7 @@ use Rattle.std.specs.Prelude.{◌≡◌, ℕ, List, [], ◌∷◌, ◌++◌, map
 use Rattle.def_script.specs.Bytes.{Bytes}
 use Rattle.def_tree.specs.Tree.{Tree}
 use Rattle.def_text.specs.Refusal.{TextReads}
+use Rattle.def_emit.specs.Emit.{script_of}
 use Rattle.def_sane.specs.declared.Unfit.{Unfit}
 use Rattle.def_sane.specs.Unfit.{first_unfit}
 use Rattle.std.specs.declared.vec.Vec.{Vec}
@@ -26,7 +27,7 @@ HasTree text = (tree : Tree) × (offsets : List ℕ) × TextReads text tree offs
 
 -- what is told of a tree whose nodes have these offsets
 abbrev pub TellsOfTree : List Piece → Tree → (offsets : List ℕ) → Judgement → Type 0
-TellsOfTree pieces tree offsets (own.Sane measures) = (first_unfit tree ≡ None) × IsMeasured tree measures
+TellsOfTree pieces tree offsets (own.Sane measures script) = (first_unfit tree ≡ None) × IsMeasured tree measures × (script ≡ script_of tree)
 TellsOfTree pieces tree offsets (own.Unfit reason) =
     (why : Unfit) × (first_unfit tree ≡ Some why) × (reason.items ≡ reason_line (unfit (map (place_of 0 pieces) offsets) why))
 

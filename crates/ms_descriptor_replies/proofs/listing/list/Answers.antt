@@ -21,7 +21,7 @@ returns-in-Some c =
     (subst (λ (z : Option (Vec ℕ Global)). AddsIndex asked.network asked.branch d c.loop-index.index c.loop-index.report.items c.push_index.new.report.items z)
     c.in-Some.is c.in_ok-reason.ensures) in
     IfOk-weaker c.nothing_at.result _ _ (λ made e. wrong.replies (reply made.status made.report.items) e)
-    (c.nothing_at.ensures wrong.why (c.deref.ensures.value ∙ wrong.is))
+    (c.nothing_at.ensures wrong.why (c.deref-in-Some.ensures.value ∙ wrong.is))
 
 pub loop-index-preserved : goal.loop-index-preserved
 loop-index-preserved c =

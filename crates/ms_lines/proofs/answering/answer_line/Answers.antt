@@ -1,11 +1,9 @@
-use Rattle.std.proofs.Common.{None, List, ℕ, subst}
-use Rattle.serde_json.specs.View.{view}
+use Rattle.std.proofs.Common.{None, sym, subst}
 use Rattle.def_lines.specs.declared.LineFault.TheVariants as fault
+use Rattle.def_lines.specs.Question.{Line}
 use Rattle.def_lines.specs.Answer.{answer_line, fault_line, REFUSED}
-use Rattle.ms_io.specs.Sides.{side}
-use Rattle.ms_io.specs.declared.sink.SinkFailed.{SinkFailed}
-use Rattle.ms_lines.specs.Through.{PassesOrFails}
-use Rattle.ms_lines.proofs.AskedLemmas.{too_long_line, read_line, unread_line}
+use Rattle.ms_lines.specs.Puts.{AnswersOrLacks}
+use Rattle.ms_lines.proofs.AskedLemmas.{too_long_line, short_line}
 use Rattle.ms_lines.proofs.answering.answer_line.Goals as goal
 
 pub returns-then-line-gt-MOST_LINE : goal.returns-then-line-gt-MOST_LINE
@@ -14,17 +12,14 @@ returns-then-line-gt-MOST_LINE g c =
 
 pub returns-in-Ok : goal.returns-in-Ok
 returns-in-Ok g c =
-    let put = c.answer_value.ensures in (
+    let put = c.answer_plain.ensures in (
       put.0,
-      read_line g.P.Program.answers c.args.line.now put.0 (view c.in-Ok.value) c.if-line-gt-MOST_LINE.false c.in-Ok.ensures.ok.0 c.in-Ok.ensures.ok.1 put.1,
+      short_line g.P.Program.answers c.args.line.now put.0 c.if-line-gt-MOST_LINE.false
+          (subst (λ (line : Line). AnswersOrLacks g.P.Program.answers line put.0) (sym c.in-Ok.ensures) put.1),
       put.2,
     )
 
-pub returns-in-Err-2 : goal.returns-in-Err-2
-returns-in-Err-2 g c = (
-  answer_line None REFUSED (fault_line fault.NotJson),
-  unread_line g.P.Program.answers c.args.line.now c.if-line-gt-MOST_LINE.false
-      (c.in-Err.ensures.err (λ memory. let said = c.if-is_memory.false in let yes = c.is_memory.ensures.1 memory in cc)),
-  subst (λ (report : List ℕ). PassesOrFails {E = SinkFailed} (side g.K.Sink.written g.K.Sink.faults c.args.sink.now c.put_answer.new.sink)
-      c.args.held.now.items c.put_answer.new.held.items (answer_line None REFUSED report) c.put_answer.result) c.report_of.ensures c.put_answer.ensures,
-)
+pub returns-in-Err : goal.returns-in-Err
+returns-in-Err g c =
+    let put = c.answer_other.ensures in
+    (put.0, short_line g.P.Program.answers c.args.line.now put.0 c.if-line-gt-MOST_LINE.false put.1, put.2)
