@@ -8,7 +8,6 @@ from msat.explain import wallet
 from msat.explain.command import answer, main
 from msat.explain.document import document
 from msat.explain.explanation import Explanation
-from msat.explain.given import Unfit
 from msat.explain.page import page
 from msat.explain.refusals import Refusal
 from msat.explain.report import explained
@@ -103,7 +102,7 @@ class Wallets(unittest.TestCase):
         self.assertFalse(wallet.is_descriptor(f"or_d(pk({X}),pk(a))"))
         self.assertFalse(wallet.is_descriptor("wsh(pk([d34db33f/48h]xpub6A/0/*))"))
         self.assertEqual(self.refused(f"wpkh({X}/0/*)").report, "refused input Kind")
-        with self.assertRaises(Unfit):
+        with self.assertRaises(msat.Unreadable):
             wallet.ask(["check", "a\0b"])
 
     def test_words(self):
