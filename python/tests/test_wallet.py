@@ -105,6 +105,11 @@ class Wallets(unittest.TestCase):
         with self.assertRaises(msat.Unreadable):
             wallet.ask(["check", "a\0b"])
 
+    def test_private_keys_are_not_shown(self):
+        found = answer(f"wsh(pk({PRIVATE}/0/*))\0", {})
+        self.assertEqual(found.report, "refused input")
+        self.assertNotIn(PRIVATE[4:12], found.shown)
+
     def test_words(self):
         for words in (["pk(alice)", "--index", "1"], [GOOD, "--branch", "16"], [GOOD, "--index", "01"], [GOOD, "--index", "2147483648"]):
             self.assertEqual(main(words), 1)

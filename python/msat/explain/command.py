@@ -129,12 +129,12 @@ def answer(
         given = read(raw, digits, keys)
         return explain(given, consensus=consensus, assets=assets)
     except Unfit as unfit:
-        return refusals.of_input(unfit, raw)
+        return refusals.of_input(unfit, wallet.shown(raw))
     except msat.TextRefused as refused:
         assert given is not None
         return refusals.of_text(refused, given)
     except msat.Unreadable as error:
-        return refusals.of_error(error, TEXT, "The text isn't UTF-8, or has a NUL.", raw)
+        return refusals.of_error(error, TEXT, "The text isn't UTF-8, or has a NUL.", wallet.shown(raw))
     except msat.FileRefused as error:
         return refusals.of_error(error, FILE, "The asset file is refused.", "")
     except msat.NoReading as error:

@@ -70,6 +70,15 @@ def ask(words: list[str]) -> tuple[int, str]:
     return status, report.decode()
 
 
+def shown(raw: str) -> str:
+    """What was given, as it may be shown: of what looks like a private key all letters but four are `*`.
+
+    >>> shown("wsh(pk(tprv8ZgxMBicQKsPd))")
+    'wsh(pk(tprv*************))'
+    """
+    return _Text(raw).shown
+
+
 class _Text:
     """A descriptor without white space. Each of its bytes knows of which character of what was given it comes."""
 
