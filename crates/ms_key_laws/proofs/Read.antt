@@ -81,7 +81,7 @@ order_forms : (keys : List Key) → All IsKey keys → All IsKey (in_order keys)
 order_forms [] all = all
 order_forms (own ∷ keys) all = sorted_forms own (in_order keys) (All-head IsKey own keys all) (order_forms keys (All-tail IsKey own keys all))
 
-ordered : (count : ℕ) (keys : List Key) → AreKeys count keys → AreKeys count (in_order keys)
+pub ordered : (count : ℕ) (keys : List Key) → AreKeys count keys → AreKeys count (in_order keys)
 ordered count keys h = record { size = order_long keys ∙ h.size; forms = order_forms keys h.forms }
 
 -- ---- what was read of a descriptor

@@ -43,7 +43,7 @@ bytes_before (b ∷ bytes) at rest other h =
 
 -- ---- a word before them
 
-abbrev joined : (at : ℕ) (w : Bytes) → List Token → List Token
+abbrev pub joined : (at : ℕ) (w : Bytes) → List Token → List Token
 joined at w (word n v ∷ ts) = word at (w ++ v) ∷ ts
 joined at w ts = word at w ∷ ts
 
@@ -58,7 +58,7 @@ more_bytes at n b c w (word m v ∷ ts) = refl
 more_bytes at n b c w (t ∷ ts) = refl
 
 -- the bytes of a word join what is behind them
-joins : (w : Bytes) (at : ℕ) (rest : Bytes) → list_all is_word_byte w ≡ true → 0 < length w
+pub joins : (w : Bytes) (at : ℕ) (rest : Bytes) → list_all is_word_byte w ≡ true → 0 < length w
     → tokens_from at (w ++ rest) ≡ joined at w (tokens_from (at + length w) rest)
 joins [] at rest all some = absurd (omega arith)
 joins (b ∷ []) at rest all some =

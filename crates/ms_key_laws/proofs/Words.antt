@@ -57,7 +57,7 @@ no_name w (Some form) h long =
 no_head : {w : Bytes} → HoldsKey w → head_of w ≡ neither
 no_head {w = w} h = ap (λ o. head_from o (first_named w FORMS)) h.no_run ∙ ap (head_from None) (no_name w (first_named w FORMS) refl h.long)
 
-short_number : (w : Bytes) → is_number w ≡ true → length w ≤ 10
+pub short_number : (w : Bytes) → is_number w ≡ true → length w ≤ 10
 short_number w h = elim (or_cases (bytes_eq w (codes "0"))
     (all_ascii_digits w && nat_le 1 (length w) && nat_le (length w) 10 && not (slice_index w 0 == 48)) h) [
       | inl lone ↦ subst (λ v. length v ≤ 10) (sym ((bytes_eq-Decides w (codes "0")).0 lone)) (omega arith)

@@ -2,3 +2,11 @@ pub mod Bare
 pub mod Heads
 pub mod Trees
 pub mod Lines
+pub mod Moved
+pub mod Holes
+pub mod Within
+pub mod Contexts
+pub mod Putting
+pub mod Lettering
+pub mod Texts
+pub mod Fitting
